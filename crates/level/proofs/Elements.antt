@@ -1,0 +1,52 @@
+-- Elements by their numbers, and the sum as a group in which each element is its own inverse.
+use mathlib.Core.Path.{_≡_, refl, sym, ap, subst, _∙_}
+use Prim.Native.Nat.{ℕ, _^_, _%_, _<_}
+use native.Mathlib.Bridge.{le-prop}
+use native.Mathlib.Nat.{mod-eq-of-lt}
+use lib.Bits.{bitXor, xor-assoc, xor-comm, xor-zero-r, xor-zero-l, xor-self}
+use Rattle.level.specs.Element.{Element, width, cut, plus, zeros}
+
+-- an element is its number
+pub same : {k : ℕ} (x y : Element k) → x .number ≡ y .number → x ≡ y
+same {k} x y e =
+    subst (λ (n : ℕ). (q : n < 2 ^ width k) → _≡_ {A = Element k} x (record { number = n; fits = q })) e
+    (λ q. ap (λ p. record { number = x .number; fits = p }) (le-prop (x .fits) q)) (y .fits)
+
+pub cut-is : (k n : ℕ) → cut k n .number ≡ n % 2 ^ width k
+unfolding cut
+cut-is k n = refl
+
+pub zeros-is : (k : ℕ) → zeros k .number ≡ 0
+unfolding zeros
+zeros-is k = refl
+
+pub plus-is : {k : ℕ} (x y : Element k) → plus x y .number ≡ bitXor (x .number) (y .number)
+unfolding plus
+plus-is x y = refl
+
+pub cut-number : {k : ℕ} (x : Element k) → cut k (x .number) ≡ x
+unfolding cut
+cut-number {k} x = same _ _ (mod-eq-of-lt (x .fits))
+
+pub plus-assoc : {k : ℕ} (x y z : Element k) → plus (plus x y) z ≡ plus x (plus y z)
+unfolding plus
+plus-assoc x y z = same _ _ (xor-assoc (x .number) (y .number) (z .number))
+
+pub plus-comm : {k : ℕ} (x y : Element k) → plus x y ≡ plus y x
+unfolding plus
+plus-comm x y = same _ _ (xor-comm (x .number) (y .number))
+
+pub plus-zeros : {k : ℕ} (x : Element k) → plus x (zeros k) ≡ x
+unfolding plus zeros
+plus-zeros x = same _ _ (xor-zero-r (x .number))
+
+pub zeros-plus : {k : ℕ} (x : Element k) → plus (zeros k) x ≡ x
+unfolding plus zeros
+zeros-plus x = same _ _ (xor-zero-l (x .number))
+
+pub plus-self : {k : ℕ} (x : Element k) → plus x x ≡ zeros k
+unfolding plus zeros
+plus-self x = same _ _ (xor-self (x .number))
+
+pub plus-left-comm : {k : ℕ} (x y z : Element k) → plus x (plus y z) ≡ plus y (plus x z)
+plus-left-comm x y z = sym (plus-assoc x y z) ∙ ap (λ w. plus w z) (plus-comm x y) ∙ plus-assoc y x z

@@ -1,0 +1,3 @@
+pub mod Element
+pub mod Laws
+pub mod Bytes
