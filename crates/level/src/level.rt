@@ -49,7 +49,8 @@ pub trait Level: Copy {
 
     // Whether all coordinates agree.
     fn equals(self, other: Self) -> bool
-        ensures { λ r. ⌜ (T r → means self ≡ means other) ⌝ ∗ ⌜ (means self ≡ means other → T r) ⌝ };
+        ensures agree { λ r. ⌜ (T r → means self ≡ means other) ⌝ }
+        ensures found { λ r. ⌜ (means self ≡ means other → T r) ⌝ };
 
     // Bit b of byte j, b = 0 the least, is coordinate 8j + b, and 0 past the width.
     fn to_bytes(self) -> [u8; 16]
