@@ -28,7 +28,7 @@ and-xor a b c ha hb hc =
     (bit-cases (λ z. bitAnd 1 (bitXor 1 z) ≡ bitXor (bitAnd 1 1) (bitAnd 1 z)) refl refl c hc) b hb) a ha
 
 pub bit-laws : Laws bit
-unfolding bit plus cut
+unfolding plus cut
 bit-laws = record {
   times-assoc = λ x y z. same _ _ (and-assoc (x .number) (y .number) (z .number) (x .fits) (y .fits) (z .fits));
   times-comm = λ x y. same _ _ (and-comm (x .number) (y .number));
