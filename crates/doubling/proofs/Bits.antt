@@ -4,7 +4,7 @@ use mathlib.Core.Bool.{Bool, true, false, cond}
 use Prim.Native.Nat.{ℕ, _<_, _%_}
 use native.Mathlib.Omega.{arith}
 use lib.Bits.{bitAnd, bitXor}
-use Rattle.level.specs.Element.{Element, cut, zeros, plus}
+use Rattle.level.specs.Element.{cut, zeros, plus}
 use Rattle.level.proofs.Elements.{same, plus-is}
 use Rattle.doubling.specs.Doubled.{bit, bit-of}
 

@@ -6,8 +6,8 @@ use lib.Bits.{bitAnd, bitXor, and-comm}
 use Rattle.level.specs.Element.{Element, zeros, plus, cut}
 use Rattle.level.specs.Laws.{Arithmetic, Laws}
 use Rattle.level.proofs.Elements.{same, plus-assoc, plus-comm, plus-zeros, zeros-plus, plus-self, plus-left-comm}
-use Rattle.doubling.specs.Doubled.{bit, low, high, join, doubled, tower}
-use Rattle.doubling.proofs.Join.{low-join, high-join, join-halves, by-halves, low-plus, high-plus}
+use Rattle.doubling.specs.Doubled.{bit, low, high, doubled, tower}
+use Rattle.doubling.proofs.Join.{low-join, high-join, by-halves, low-plus, high-plus}
 
 -- what holds of 0 and of 1 holds of every bit
 bit-cases : (P : ℕ → Type 0) → P 0 → P 1 → (n : ℕ) → n < 2 → P n

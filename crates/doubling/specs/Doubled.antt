@@ -1,6 +1,6 @@
 -- The bit, and the doubling of a level: a low and a high half, with X·X = 1 + g·X for the high half's X and the level's generator g.
 use mathlib.Core.Bool.{Bool, true, false}
-use Prim.Native.Nat.{ℕ, zero, suc, _+_, _*_, _/_, _^_, _<_}
+use Prim.Native.Nat.{ℕ, zero, suc, _+_, _*_, _/_, _^_}
 use lib.Bits.{bitAnd, and-lt}
 use Rattle.level.specs.Element.{Element, width, cut, zeros, plus}
 use Rattle.level.specs.Laws.{Arithmetic}
@@ -41,6 +41,12 @@ doubled {k} A = record {
   unit = join (A .unit) (zeros k);
   root = join (zeros k) (A .unit);
 }
+
+-- The high half of the product of (a, b) and (c, e) by one product of sums, beside ac and be: (a + b)(c + e) + ac + be + g·be.
+abbrev pub high-by-sums : {k : ℕ} → Arithmetic k → Element k → Element k → Element k → Element k → Element k
+high-by-sums A a b c e =
+    let be = A .times b e in
+    plus (plus (plus (A .times (plus a b) (plus c e)) (A .times a c)) be) (A .times (A .root) be)
 
 -- the arithmetic of k doublings over the bit
 unfoldable pub tower : (k : ℕ) → Arithmetic k
