@@ -1,6 +1,7 @@
 -- The halves of a joined element, an element joined from its halves, and sums by halves.
-use mathlib.Core.Path.{_≡_, refl, sym, ap, ap₂, _∙_}
-use Prim.Native.Nat.{ℕ, suc, _+_, _*_, _/_, _%_, _^_, _<_}
+use mathlib.Core.Path.{_≡_, sym, ap₂, _∙_}
+use Prim.Native.Nat.{ℕ, suc}
+use native.Mathlib.Omega.{arith}
 use lib.Pow.{split}
 use lib.Pow.{high as div-high, low as mod-low}
 use lib.Bits.{xor-block, xor-shr, xor-mod}
@@ -34,3 +35,7 @@ high-plus {k} x y = same _ _ (xor-shr (x .number) (y .number) (width k))
 pub join-plus : {k : ℕ} (a b c e : Element k) → plus (join a b) (join c e) ≡ join (plus a c) (plus b e)
 unfolding join plus
 join-plus {k} a b c e = same _ _ (xor-block (width k) (b .number) (e .number) (a .number) (c .number) (a .fits) (c .fits))
+
+pub join-zeros : (k : ℕ) → join (zeros k) (zeros k) ≡ zeros (suc k)
+unfolding join zeros
+join-zeros k = same _ _ (omega arith)

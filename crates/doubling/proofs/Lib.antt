@@ -1,2 +1,5 @@
 pub mod Join
 pub mod Rings
+pub mod Products
+pub mod Shifts
+pub mod Bits

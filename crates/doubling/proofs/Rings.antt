@@ -7,8 +7,8 @@ use Rattle.level.specs.Element.{Element, zeros, plus, cut}
 use Rattle.level.specs.Laws.{Arithmetic, Laws}
 use Rattle.level.proofs.Elements.{same, plus-assoc, plus-comm, plus-zeros, zeros-plus, plus-self, plus-left-comm}
 use Rattle.level.proofs.Ring.{times-left-comm, times-zeros, plus-times}
-use Rattle.doubling.specs.Doubled.{bit, low, high, join, doubled, tower}
-use Rattle.doubling.proofs.Join.{low-join, high-join, join-halves, by-halves, low-plus, high-plus}
+use Rattle.doubling.specs.Doubled.{bit, low, high, doubled, tower}
+use Rattle.doubling.proofs.Join.{low-join, high-join, by-halves, low-plus, high-plus}
 
 -- what holds of 0 and of 1 holds of every bit
 bit-cases : (P : ℕ → Type 0) → P 0 → P 1 → (n : ℕ) → n < 2 → P n
@@ -29,7 +29,7 @@ and-xor a b c ha hb hc =
     (bit-cases (λ z. bitAnd 1 (bitXor 1 z) ≡ bitXor (bitAnd 1 1) (bitAnd 1 z)) refl refl c hc) b hb) a ha
 
 pub bit-laws : Laws bit
-unfolding bit plus cut
+unfolding plus cut
 bit-laws = record {
   times-assoc = λ x y z. same _ _ (and-assoc (x .number) (y .number) (z .number) (x .fits) (y .fits) (z .fits));
   times-comm = λ x y. same _ _ (and-comm (x .number) (y .number));

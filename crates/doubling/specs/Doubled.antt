@@ -1,17 +1,23 @@
 -- The bit, and the doubling of a level: a low and a high half, with X·X = 1 + g·X for the high half's X and the level's generator g.
-use Prim.Native.Nat.{ℕ, zero, suc, _+_, _*_, _/_, _^_, _<_}
+use mathlib.Core.Bool.{Bool, true, false}
+use Prim.Native.Nat.{ℕ, zero, suc, _+_, _*_, _/_, _^_}
 use lib.Bits.{bitAnd, and-lt}
 use Rattle.level.specs.Element.{Element, width, cut, zeros, plus}
 use Rattle.level.specs.Laws.{Arithmetic}
 use Rattle.doubling.specs.Halves.{high-fits, join-fits}
 
 -- the arithmetic of the bit: "and", 1, and the generator 1
-unfoldable pub bit : Arithmetic 0
+abbrev pub bit : Arithmetic 0
 bit = record {
   times = λ x y. record { number = bitAnd (x .number) (y .number); fits = and-lt 1 (x .number) (y .number) (x .fits) (y .fits) };
   unit = cut 0 1;
   root = cut 0 1;
 }
+
+-- one where the coordinate is set, and zero where it is not
+abbrev pub bit-of : Bool → Element 0
+bit-of true = cut 0 1
+bit-of false = zeros 0
 
 -- the first half of the coordinates
 unfoldable pub low : {k : ℕ} → Element (suc k) → Element k
@@ -35,6 +41,12 @@ doubled {k} A = record {
   unit = join (A .unit) (zeros k);
   root = join (zeros k) (A .unit);
 }
+
+-- The high half of the product of (a, b) and (c, e) by one product of sums, beside ac and be: (a + b)(c + e) + ac + be + g·be.
+abbrev pub high-by-sums : {k : ℕ} → Arithmetic k → Element k → Element k → Element k → Element k → Element k
+high-by-sums A a b c e =
+    let be = A .times b e in
+    plus (plus (plus (A .times (plus a b) (plus c e)) (A .times a c)) be) (A .times (A .root) be)
 
 -- the arithmetic of k doublings over the bit
 unfoldable pub tower : (k : ℕ) → Arithmetic k

@@ -50,3 +50,6 @@ plus-self x = same _ _ (xor-self (x .number))
 
 pub plus-left-comm : {k : ℕ} (x y z : Element k) → plus x (plus y z) ≡ plus y (plus x z)
 plus-left-comm x y z = sym (plus-assoc x y z) ∙ ap (λ w. plus w z) (plus-comm x y) ∙ plus-assoc y x z
+
+pub plus-cancel : {k : ℕ} (x y : Element k) → plus x (plus x y) ≡ y
+plus-cancel x y = sym (plus-assoc x x y) ∙ ap (λ z. plus z y) (plus-self x) ∙ zeros-plus y

@@ -1,3 +1,4 @@
 pub mod Elements
 pub mod Digits
 pub mod Ring
+pub mod Words
