@@ -12,7 +12,7 @@ use Rattle.std.proofs.shelf.Lists.{drop-more, drop-all}
 use Rattle.level.specs.Element.{Element, cut, plus}
 use Rattle.level.specs.Laws.{Arithmetic, Laws}
 use Rattle.level.proofs.Elements.{plus-is}
-use Rattle.doubling.proofs.Rings.{plus-times}
+use Rattle.level.proofs.Ring.{plus-times}
 use Rattle.polynomial.proofs.Linear.{Linear, bit-cases, agree, at-zero, linear-sum, linear-after, linear-zero, linear-odd, linear-shr}
 use Rattle.byte_levels.specs.Rows.{selected}
 use Rattle.byte_levels.proofs.Coordinates.{cut-plus}

@@ -6,8 +6,9 @@ use lib.Bits.{bitXor}
 use lib.ListN.{getD}
 use Rattle.level.specs.Element.{Element, cut, plus, zeros}
 use Rattle.level.proofs.Elements.{same, cut-number}
-use Rattle.doubling.specs.Doubled.{bit, low, high, join, doubled, tower}
-use Rattle.doubling.proofs.Rings.{tower-laws, plus-times}
+use Rattle.doubling.specs.Doubled.{low, high, join, doubled, tower}
+use Rattle.level.proofs.Ring.{plus-times}
+use Rattle.doubling.proofs.Rings.{tower-laws}
 use Rattle.polynomial.proofs.Tests.{equal-below}
 use Rattle.byte_levels.specs.Rows.{selected}
 use Rattle.byte_levels.specs.TowerSteps.{times-x0, times-x1, times-x2, low-multiples}
@@ -16,7 +17,7 @@ use Rattle.byte_levels.proofs.Coordinates.{cut-plus, cut-of, byte-number, one-
 use Rattle.byte_levels.proofs.Selected.{selected-mod, selected-times}
 
 pub tower-byte : Tower-byte
-unfolding tower doubled bit low high join cut plus zeros
+unfolding tower doubled low high join cut plus zeros
 tower-byte = record {
   one = refl;
   generator = refl;
@@ -29,12 +30,12 @@ one-is : tower 3 .unit ≡ cut 3 0x01
 one-is = sym (cut-of 0x01 (tower 3 .unit) (sym (tower-byte .one)))
 
 x0-x1 : tower 3 .times (cut 3 0x02) (cut 3 0x04) ≡ cut 3 0x08
-unfolding tower doubled bit low high join cut plus zeros
+unfolding tower doubled low high join cut plus zeros
 x0-x1 = same _ _ refl
 
 -- a byte is its low four bits, and x2 times its high four
 halves : (a : ℕ) → a < 2 ^ 8 → cut 3 a ≡ plus (cut 3 (a % 2 ^ 4)) (tower 3 .times (cut 3 0x10) (cut 3 (a / 2 ^ 4)))
-unfolding tower doubled bit low high join cut plus zeros
+unfolding tower doubled low high join cut plus zeros
 halves a h = same _ _ (equal-below 256 (λ a. cut 3 a .number) (λ a. plus (cut 3 (a % 2 ^ 4)) (tower 3 .times (cut 3 0x10) (cut 3 (a / 2 ^ 4))) .number) tt a h)
 
 multiple-is : (b : ℕ) → b < 2 ^ 8 → (i : ℕ) → i < 4 → getD (low-multiples b) i 0 ≡ (tower 3 .times (cut 3 (2 ^ i)) (cut 3 b)) .number
