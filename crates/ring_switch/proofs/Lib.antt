@@ -1,1 +1,2 @@
 pub mod Initial
+pub mod ClosingElements

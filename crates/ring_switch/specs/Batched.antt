@@ -36,3 +36,16 @@ Initial-sum-is-weighted =
     → (n : ℕ) (t : ℕ → Element k)
     → initial-sum A f b (tensor n (equality A slot) t) (carry r n (equality A slot) t) (last r n (equality A slot) t)
     ≡ sum n (λ i. A .times (t i) (weight A f slot b i))
+
+-- no more row variables than a slot has coordinates
+abbrev pub Rows-within : {k : ℕ} → Option (Stepping k) → ℕ → Type 0
+Rows-within None l = Unit {0}
+Rows-within (Some b) l = b .rows ≤ l
+
+-- the closing value at a point is the multilinear value, at that point, of the table of the slot's weights
+abbrev pub Closing-is-multilinear : Type 0
+Closing-is-multilinear =
+    (k : ℕ) (A : Arithmetic k) → Laws A
+    → (f : ℕ → Element k) (slot : Point k) (b : Option (Stepping k)) → Rows-within b (length slot)
+    → (z : Point k) → length z ≡ length slot
+    → closing-value A f slot b z ≡ multilinear A (weight A f slot b) z
