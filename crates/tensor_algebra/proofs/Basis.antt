@@ -38,7 +38,7 @@ pub basis-is : (k u : ℕ) → u < width k → basis k u .number ≡ 2 ^ u
 unfolding basis
 basis-is k u h = cut-is k (2 ^ u) ∙ mod-eq-of-lt (pow-lt h)
 
-eqb-comm : (m n : ℕ) → eqb m n ≡ eqb n m
+pub eqb-comm : (m n : ℕ) → eqb m n ≡ eqb n m
 eqb-comm m n =
     ⊎-elim (λ e. eq-eqb m n e ∙ sym (eq-eqb n m (sym e))) (λ ne. ne-eqb m n ne ∙ sym (ne-eqb n m (λ e. ne (sym e)))) (cases-eq m n)
 

@@ -8,8 +8,8 @@ use lib.Dec.{eqb}
 use Rattle.std.proofs.shelf.Tests.{eq-eqb, ne-eqb, cases-lt}
 use Rattle.level.specs.Element.{Element, plus, zeros}
 use Rattle.level.proofs.Elements.{plus-zeros, zeros-plus}
-use Rattle.multilinear.specs.Sums.{sum, where-set}
-use Rattle.multilinear.proofs.Sums.{sum-none}
+use Rattle.multilinear.specs.Sums.{sum, where-set, at-bit}
+use Rattle.multilinear.proofs.Sums.{sum-none, at-bit-zeros}
 
 module _ {k : ℕ} where
   pub where-in : (c : Bool) (x : Element k) → c ≡ true → where-set c x ≡ x
@@ -19,6 +19,11 @@ module _ {k : ℕ} where
   pub where-out : (c : Bool) (x : Element k) → c ≡ false → where-set c x ≡ zeros k
   unfolding where-set
   where-out c x e = ap (λ b. where-set b x) e
+
+  pub at-bit-where : (b : ℕ) (c : Bool) (x : Element k) → at-bit b (where-set c x) ≡ where-set c (at-bit b x)
+  unfolding where-set
+  at-bit-where b true x = refl
+  at-bit-where b false x = at-bit-zeros b
 
   pub sum-chosen : (n j : ℕ) (f : ℕ → Element k) → j < n → sum n (λ i. where-set (eqb i j) (f i)) ≡ f j
   unfolding sum

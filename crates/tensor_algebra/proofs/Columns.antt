@@ -13,7 +13,7 @@ use Rattle.tensor_algebra.specs.Tensor.{Tensor, exterior, add, column, scale-r
 
 module _ {k : ℕ} where
   -- the exterior product is linear in each leg
-  at-bit-xor : (c e : ℕ) (x : Element k) → c < 2 → e < 2 → at-bit (bitXor c e) x ≡ plus (at-bit c x) (at-bit e x)
+  pub at-bit-xor : (c e : ℕ) (x : Element k) → c < 2 → e < 2 → at-bit (bitXor c e) x ≡ plus (at-bit c x) (at-bit e x)
   unfolding at-bit
   at-bit-xor zero e x _ _ = sym (zeros-plus (at-bit e x))
   at-bit-xor (suc zero) zero x _ _ = sym (plus-zeros x)
