@@ -1,8 +1,8 @@
 -- The closing elements are the tensor, the carry and the last of two equality tables, so the closing value is an initial sum.
 use mathlib.Core.Path.{_≡_, refl, sym, ap, ap₂, _∙_, fun-ext}
-use mathlib.Core.Bool.{Bool, true, false, not}
+use mathlib.Core.Bool.{not}
 use mathlib.Core.List.{_++_}
-use Prim.Native.Nat.{ℕ, zero, suc, _+_, _-_, _*_, _%_, _^_, _<_, _≤_, min}
+use Prim.Native.Nat.{ℕ, suc, _+_, _-_, _*_, _%_, _^_, _<_, _≤_, min}
 use native.Mathlib.Omega.{arith}
 use lib.Arith.{digits-mod}
 use lib.Dec.{eqb}
@@ -11,24 +11,24 @@ use lib.Pow.{pow-add, pow-pos, ones-lt, suc-ones}
 use Rattle.std.specs.declared.option.Option.{Option}
 use Rattle.std.specs.declared.option.Option.the-variants.{Some, None}
 use Rattle.std.proofs.shelf.Tests.{eq-eqb, ne-eqb, not-from-true, not-from-false}
-use Rattle.level.specs.Element.{Element, plus, zeros}
+use Rattle.level.specs.Element.{Element, plus}
 use Rattle.level.specs.Laws.{Arithmetic, Laws}
-use Rattle.level.proofs.Elements.{plus-zeros, zeros-plus}
+use Rattle.level.proofs.Elements.{zeros-plus}
 use Rattle.multilinear.specs.Sums.{sum, where-set}
 use Rattle.multilinear.specs.Equality.{Point, equality, multilinear}
-use Rattle.multilinear.proofs.Sums.{sum-same, sum-rows, sum-first, sum-none}
+use Rattle.multilinear.proofs.Sums.{sum-same, sum-rows, sum-first}
 use Rattle.multilinear.proofs.Entries.{entry-parts}
-use Rattle.tensor_algebra.specs.Tensor.{Tensor, exterior, product, batch-rows, equality-element, successor-element, equality-factors}
+use Rattle.tensor_algebra.specs.Tensor.{exterior, product, batch-rows, equality-element, successor-element, equality-factors}
 use Rattle.tensor_algebra.proofs.Chosen.{where-in, where-out, sum-chosen}
 use Rattle.tensor_algebra.proofs.Tables.{entry-last}
 use Rattle.tensor_algebra.proofs.Factors.{exteriors, equality-exteriors, successor-exteriors, factors-exteriors}
 use Rattle.ring_switch.specs.Claims.{starts, ends, tensor, carry, last}
 use Rattle.ring_switch.specs.Batching.{Stepping, weight, successor-rows, initial-sum, carry-element, last-element, closing-value}
-use Rattle.ring_switch.specs.Batched.{Rows-within, Closing-is-multilinear}
+use Rattle.ring_switch.specs.Batched.{Rows-within, Closing-elements-are-tensors, Closing-is-multilinear}
 use Rattle.ring_switch.proofs.Initial.{initial-weighted}
 
 module _ {k : ℕ} {A : Arithmetic k} (laws : Laws A) where
-  equality-is-tensor : (slot z : Point k) → length z ≡ length slot
+  pub equality-is-tensor : (slot z : Point k) → length z ≡ length slot
       → equality-element A slot z ≡ tensor (2 ^ length slot) (equality A slot) (equality A z)
   unfolding tensor
   equality-is-tensor slot z e = equality-exteriors laws slot z e
@@ -51,17 +51,17 @@ module _ {k : ℕ} {A : Arithmetic k} (laws : Laws A) where
 
     carry-column : (j u : ℕ)
         → sum spanned (λ i. where-set (not (starts (length b) (j * spanned + i)))
-          (exterior (equality A (a ++ b) (j * spanned + i - 1)) (equality A (c ++ d) (j * spanned + i)) u))
+        (exterior (equality A (a ++ b) (j * spanned + i - 1)) (equality A (c ++ d) (j * spanned + i)) u))
         ≡ exteriors (spanned - 1) (λ i. A .times (equality A a j) (equality A b i)) (λ i. A .times (equality A c j) (equality A d (suc i))) u
     carry-column j u =
         ap (λ m. sum m f) (sym (suc-ones (length b))) ∙ sum-first (spanned - 1) f
         ∙ ap₂ plus (where-out _ _ (not-from-true _ (eq-eqb _ 0 (digits-mod j (pow-pos (length b))))))
-          (sum-same (spanned - 1) _ _ (λ i h.
-          let l : suc i < spanned = omega arith in
-          let e : j * spanned + suc i - 1 ≡ j * spanned + i = omega arith in
-          let ne : (j * spanned + suc i) % spanned ≡ suc i = digits-mod j l in
-          where-in _ _ (not-from-false _ (ne-eqb _ 0 (λ z. omega arith)))
-          ∙ ap₂ (λ s t. exterior s t u) (ap (equality A (a ++ b)) e ∙ first-parts j i (omega arith)) (second-parts j (suc i) l)))
+        (sum-same (spanned - 1) _ _ (λ i h.
+        let l : suc i < spanned = omega arith in
+        let e : j * spanned + suc i - 1 ≡ j * spanned + i = omega arith in
+        let ne : (j * spanned + suc i) % spanned ≡ suc i = digits-mod j l in
+        where-in _ _ (not-from-false _ (ne-eqb _ 0 (λ z. omega arith)))
+        ∙ ap₂ (λ s t. exterior s t u) (ap (equality A (a ++ b)) e ∙ first-parts j i (omega arith)) (second-parts j (suc i) l)))
         ∙ zeros-plus _
       where
         f : ℕ → Element k
@@ -78,15 +78,15 @@ module _ {k : ℕ} {A : Arithmetic k} (laws : Laws A) where
 
     last-column : (j u : ℕ)
         → sum spanned (λ i. where-set (ends (length b) (j * spanned + i))
-          (exterior (equality A (a ++ b) (j * spanned + i)) (equality A (c ++ d) (j * spanned + i)) u))
+        (exterior (equality A (a ++ b) (j * spanned + i)) (equality A (c ++ d) (j * spanned + i)) u))
         ≡ exteriors 1 (λ i. A .times (equality A a j) (product A b)) (λ i. A .times (equality A c j) (product A d)) u
     unfolding sum
     last-column j u =
         sum-same spanned _ _ (λ i h. ap₂ (λ m x. where-set (eqb m (spanned - 1)) x) (digits-mod j h)
-          (ap₂ (λ s t. exterior s t u) (first-parts j i h) (second-parts j i h)))
+        (ap₂ (λ s t. exterior s t u) (first-parts j i h) (second-parts j i h)))
         ∙ sum-chosen spanned (spanned - 1) (λ i. exterior (A .times (equality A a j) (equality A b i)) (A .times (equality A c j) (equality A d i)) u) (ones-lt (length b))
         ∙ ap₂ (λ s t. exterior (A .times (equality A a j) s) (A .times (equality A c j) t) u) (entry-last laws b)
-          (ap (λ l. equality A d (2 ^ l - 1)) (sym eb) ∙ entry-last laws d)
+        (ap (λ l. equality A d (2 ^ l - 1)) (sym eb) ∙ entry-last laws d)
         ∙ sym (zeros-plus _)
 
     last-parts : (u : ℕ) → equality-factors A a c (exterior (product A b) (product A d)) u
@@ -116,7 +116,7 @@ module _ {k : ℕ} {A : Arithmetic k} (laws : Laws A) where
     carry-is =
         fun-ext (λ u. carry-parts (take kept slot) (drop kept slot) (take kept z) (drop kept z) kept-same spanned-same u
         ∙ ap₂ (λ p q. carry (length (drop kept slot)) (2 ^ length p) (equality A p) (equality A q) u)
-          (take-append-drop kept slot) (take-append-drop kept z)
+        (take-append-drop kept slot) (take-append-drop kept z)
         ∙ ap (λ n. carry n (2 ^ length slot) (equality A slot) (equality A z) u) spanned-rows)
 
     pub last-is : last-element A r slot z ≡ last r (2 ^ length slot) (equality A slot) (equality A z)
@@ -124,7 +124,7 @@ module _ {k : ℕ} {A : Arithmetic k} (laws : Laws A) where
     last-is =
         fun-ext (λ u. last-parts (take kept slot) (drop kept slot) (take kept z) (drop kept z) kept-same spanned-same u
         ∙ ap₂ (λ p q. last (length (drop kept slot)) (2 ^ length p) (equality A p) (equality A q) u)
-          (take-append-drop kept slot) (take-append-drop kept z)
+        (take-append-drop kept slot) (take-append-drop kept z)
         ∙ ap (λ n. last n (2 ^ length slot) (equality A slot) (equality A z) u) spanned-rows)
 
   -- a sum by weights of the entries of the closing point's table is the weights' multilinear value
@@ -145,6 +145,13 @@ module _ {k : ℕ} {A : Arithmetic k} (laws : Laws A) where
       ap₂ (λ t s. plus (batch-rows A f t) s) (equality-is-tensor slot z e)
       (ap₂ (successor-rows A f (b .challenge)) (carry-is slot z (b .rows) h e) (last-is slot z (b .rows) h e))
       ∙ initial-weighted laws f slot (Some b) (b .rows) refl (2 ^ length slot) (equality A z) ∙ weights-at _ slot z e
+
+pub closing-elements-are-tensors : Closing-elements-are-tensors
+closing-elements-are-tensors = record {
+  equality-is = equality-is-tensor;
+  carry-is = carry-is;
+  last-is = last-is;
+}
 
 pub closing-is-multilinear : Closing-is-multilinear
 closing-is-multilinear k A laws = closing-multilinear laws

@@ -1,5 +1,5 @@
 -- Batched rows as sums over the packed elements, and the initial sum by the weights of a slot.
-use mathlib.Core.Path.{_≡_, refl, sym, ap, ap₂, _∙_}
+use mathlib.Core.Path.{_≡_, sym, ap, ap₂, _∙_}
 use mathlib.Core.Bool.{Bool, true, not}
 use Prim.Native.Nat.{ℕ, _-_}
 use Rattle.std.specs.declared.option.Option.{Option}
@@ -11,7 +11,7 @@ use Rattle.level.proofs.Ring.{times-left-comm}
 use Rattle.multilinear.specs.Sums.{sum, where-set}
 use Rattle.multilinear.specs.Equality.{Point, equality}
 use Rattle.multilinear.proofs.Sums.{sum-same, sum-plus, times-sum, times-where}
-use Rattle.tensor_algebra.specs.Tensor.{exterior, subset-sum, batch-rows}
+use Rattle.tensor_algebra.specs.Tensor.{subset-sum}
 use Rattle.tensor_algebra.proofs.Rows.{batch-exteriors}
 use Rattle.ring_switch.specs.Claims.{starts, ends, tensor, carry, last}
 use Rattle.ring_switch.specs.Batching.{Stepping, settled, weight, successor-rows, initial-sum}
@@ -59,6 +59,7 @@ module _ {k : ℕ} {A : Arithmetic k} (laws : Laws A) where
     where
       e : ℕ → Element k
       e = equality A slot
+
       s : ℕ → Element k
       s i = subset-sum f (equality A slot i)
 

@@ -9,9 +9,9 @@ use Rattle.level.specs.Element.{Element}
 use Rattle.level.specs.Laws.{Arithmetic, Laws}
 use Rattle.multilinear.specs.Sums.{sum, where-set}
 use Rattle.multilinear.specs.Equality.{Point, equality, multilinear}
-use Rattle.tensor_algebra.specs.Tensor.{subset-sum, batch-rows}
+use Rattle.tensor_algebra.specs.Tensor.{subset-sum, batch-rows, equality-element}
 use Rattle.ring_switch.specs.Claims.{starts, ends, tensor, carry, last}
-use Rattle.ring_switch.specs.Batching.{Stepping, weight, initial-sum, closing-value}
+use Rattle.ring_switch.specs.Batching.{Stepping, weight, initial-sum, carry-element, last-element, closing-value}
 
 -- the batched rows of the tensor of a table e and packed elements t: each packed element times the batching weights of the set
 -- coordinates of its entry; of the carry, those of the entry before it, column starts left out; of the last, column ends alone
@@ -41,6 +41,15 @@ Initial-sum-is-weighted =
 abbrev pub Rows-within : {k : ℕ} → Option (Stepping k) → ℕ → Type 0
 Rows-within None l = Unit {0}
 Rows-within (Some b) l = b .rows ≤ l
+
+-- the closing elements of a slot and a point are the tensor, the carry and the last of their equality tables
+pub record Closing-elements-are-tensors : Type 0 where
+  pub equality-is : {k : ℕ} {A : Arithmetic k} → Laws A → (slot z : Point k) → length z ≡ length slot
+      → equality-element A slot z ≡ tensor (2 ^ length slot) (equality A slot) (equality A z)
+  pub carry-is : {k : ℕ} {A : Arithmetic k} → Laws A → (slot z : Point k) (r : ℕ) → r ≤ length slot → length z ≡ length slot
+      → carry-element A r slot z ≡ carry r (2 ^ length slot) (equality A slot) (equality A z)
+  pub last-is : {k : ℕ} {A : Arithmetic k} → Laws A → (slot z : Point k) (r : ℕ) → r ≤ length slot → length z ≡ length slot
+      → last-element A r slot z ≡ last r (2 ^ length slot) (equality A slot) (equality A z)
 
 -- the closing value at a point is the multilinear value, at that point, of the table of the slot's weights
 abbrev pub Closing-is-multilinear : Type 0

@@ -1,22 +1,21 @@
 -- The basis elements: their coordinates, and elements and tensors as sums over them.
-use mathlib.Core.Path.{_≡_, refl, sym, ap, ap₂, _∙_}
+use mathlib.Core.Path.{_≡_, sym, ap, _∙_}
 use mathlib.Core.Logic.{⊎-elim}
-use Prim.Native.Nat.{ℕ, zero, suc, _+_, _-_, _*_, _/_, _%_, _^_, _<_, _≤_}
+use Prim.Native.Nat.{ℕ, zero, suc, _+_, _-_, _/_, _%_, _^_, _<_}
 use native.Mathlib.Omega.{arith}
 use native.Mathlib.Nat.{mod-eq-of-lt, div-eq-of-lt, pow-suc, one-mul}
 use lib.Dec.{eqb}
 use lib.Pow.{pow-lt, pow-pos, pow-add, shl-shr}
 use Rattle.std.proofs.shelf.Tests.{eq-eqb, ne-eqb, cases-eq, cases-order}
-use Rattle.level.specs.Element.{Element, width, coordinate, cut, plus, zeros}
-use Rattle.level.specs.Laws.{Arithmetic, Laws}
+use Rattle.level.specs.Element.{Element, width, coordinate}
 use Rattle.level.proofs.Elements.{cut-is}
 use Rattle.multilinear.specs.Sums.{sum, at-bit, where-set}
-use Rattle.multilinear.proofs.Sums.{sum-same, sum-exchange}
+use Rattle.multilinear.proofs.Sums.{sum-same}
 use Rattle.multilinear.proofs.Coordinates.{coordinate-binary, coordinate-zeros}
-use Rattle.tensor_algebra.specs.Tensor.{Tensor, exterior, column, scale-columns, subset-sum}
+use Rattle.tensor_algebra.specs.Tensor.{Tensor, exterior, subset-sum}
 use Rattle.tensor_algebra.specs.Subsets.{basis}
 use Rattle.tensor_algebra.proofs.Chosen.{where-in, where-out, sum-chosen}
-use Rattle.tensor_algebra.proofs.Columns.{column-same, column-exterior, column-sum, scale-columns-same, scale-columns-exteriors}
+use Rattle.tensor_algebra.proofs.Columns.{column-same, column-exterior, column-sum}
 
 -- the binary digits of a power of two
 pub power-digit-same : (u : ℕ) → 2 ^ u / 2 ^ u % 2 ≡ 1
@@ -74,6 +73,7 @@ module _ {k : ℕ} where
     where
       one-set : coordinate (basis k 0) 0 ≡ 1
       one-set = ap (λ n. n / 2 ^ 0 % 2) (basis-is k 0 (pow-pos k))
+
       bit-kept : (c : ℕ) → c < 2 → coordinate (at-bit c (basis k 0)) 0 ≡ c
       bit-kept zero _ = coordinate-zeros k 0
       bit-kept (suc zero) _ = one-set

@@ -1,13 +1,13 @@
 -- Sums of exterior products a byte at a time, and under a common factor of the first leg.
-use mathlib.Core.Path.{_≡_, refl, sym, ap, ap₂, _∙_}
-use Prim.Native.Nat.{ℕ, zero, suc, _+_, _*_, _/_, _%_, _^_, _<_}
+use mathlib.Core.Path.{_≡_, sym, ap, _∙_}
+use Prim.Native.Nat.{ℕ, _+_, _*_, _/_, _%_, _^_, _<_}
 use native.Mathlib.Omega.{arith}
 use lib.Dec.{eqb}
-use Rattle.level.specs.Element.{Element, width, coordinate}
+use Rattle.level.specs.Element.{Element, width}
 use Rattle.level.specs.Laws.{Arithmetic, Laws}
 use Rattle.level.proofs.Digits.{bit-of-byte}
 use Rattle.multilinear.specs.Sums.{sum, at-bit, where-set}
-use Rattle.multilinear.proofs.Sums.{sum-same, sum-exchange, at-bit-sum, at-bit-zeros}
+use Rattle.multilinear.proofs.Sums.{sum-same, sum-exchange, at-bit-sum}
 use Rattle.tensor_algebra.specs.Tensor.{Tensor, exterior, scale-columns}
 use Rattle.tensor_algebra.specs.Subsets.{basis, byte}
 use Rattle.tensor_algebra.specs.Buckets.{bucket, Rows-from-buckets, Columns-are-scaled}

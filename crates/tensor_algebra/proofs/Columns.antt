@@ -3,7 +3,7 @@ use mathlib.Core.Path.{_≡_, refl, sym, ap, ap₂, _∙_, fun-ext}
 use Prim.Native.Nat.{ℕ, zero, suc, _%_, _<_}
 use native.Mathlib.Omega.{arith}
 use lib.Bits.{bitXor}
-use Rattle.level.specs.Element.{Element, width, coordinate, plus, zeros}
+use Rattle.level.specs.Element.{Element, width, coordinate, plus}
 use Rattle.level.specs.Laws.{Arithmetic, Laws}
 use Rattle.level.proofs.Elements.{plus-zeros, zeros-plus, plus-self}
 use Rattle.multilinear.specs.Sums.{sum, at-bit}

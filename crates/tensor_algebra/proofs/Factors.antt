@@ -1,7 +1,7 @@
 -- The equality, successor and last elements, and equality factors, as sums of exterior products over the hypercube.
 use mathlib.Core.Path.{_≡_, refl, sym, ap, ap₂, _∙_, fun-ext}
 use mathlib.Core.List.{[], _∷_, map}
-use Prim.Native.Nat.{ℕ, zero, suc, _+_, _-_, _*_, _^_, _<_}
+use Prim.Native.Nat.{ℕ, suc, _+_, _-_, _^_}
 use native.Mathlib.Omega.{arith}
 use lib.ListN.{length}
 use lib.Pow.{pow-pos, ones-lt, suc-ones}
@@ -11,7 +11,7 @@ use Rattle.level.proofs.Elements.{plus-assoc, plus-comm, plus-left-comm, plus-z
 use Rattle.level.proofs.Ring.{plus-times, unit-times, times-left-comm}
 use Rattle.multilinear.specs.Sums.{sum}
 use Rattle.multilinear.specs.Equality.{Point, entry, equality}
-use Rattle.multilinear.proofs.Sums.{sum-same, sum-plus, sum-append, sum-first}
+use Rattle.multilinear.proofs.Sums.{sum-same, sum-plus, sum-append}
 use Rattle.tensor_algebra.specs.Tensor.{Tensor, exterior, add, one, nothing, scale-rows, scale-columns, equality-factor, product, equality-element, successor-element, equality-factors}
 use Rattle.tensor_algebra.proofs.Columns.{plus-exterior, exterior-plus, scale-rows-add, scale-columns-add, scale-rows-exteriors, scale-columns-exteriors}
 use Rattle.tensor_algebra.proofs.Tables.{double, entry-low, entry-high, entry-first, entry-last, sum-halves}
@@ -38,13 +38,13 @@ module _ {k : ℕ} {A : Arithmetic k} (laws : Laws A) where
       let yb = A .times y b in
       cancel (exterior a b u) (exterior xa b u) (exterior a yb u) (exterior xa yb u)
       ∙ ap (λ z. plus z (exterior xa yb u))
-        (ap₂ plus (sym (exterior-plus a b yb u)) (sym (exterior-plus xa b yb u)) ∙ sym (plus-exterior a xa (plus b yb) u)
-        ∙ ap₂ (λ s t. exterior s t u) (sym (one-plus x a)) (sym (one-plus y b)))
+      (ap₂ plus (sym (exterior-plus a b yb u)) (sym (exterior-plus xa b yb u)) ∙ sym (plus-exterior a xa (plus b yb) u)
+      ∙ ap₂ (λ s t. exterior s t u) (sym (one-plus x a)) (sym (one-plus y b)))
 
   pub factor-exteriors : (x y : Element k) (n : ℕ) (a b : ℕ → Element k)
       → equality-factor A x y (exteriors n a b)
       ≡ add (exteriors n (λ i. A .times (plus (A .unit) x) (a i)) (λ i. A .times (plus (A .unit) y) (b i)))
-        (exteriors n (λ i. A .times x (a i)) (λ i. A .times y (b i)))
+      (exteriors n (λ i. A .times x (a i)) (λ i. A .times y (b i)))
   unfolding equality-factor add
   factor-exteriors x y n a b =
       fun-ext (λ u.
@@ -88,10 +88,10 @@ module _ {k : ℕ} {A : Arithmetic k} (laws : Laws A) where
       let y′ = plus (A .unit) y in
       ap (λ t. equality-factors A p q t u) (factor-exteriors x y n a b) ∙ ap (λ t. t u) (factors-add p q _ _)
       ∙ ap₂ plus
-        (factors-exteriors p q h n (λ i. A .times x′ (a i)) (λ i. A .times y′ (b i)) u
-        ∙ sum-same (2 ^ length p) _ _ (λ j _. regroup x′ y′ (equality A p j) (equality A q j) n a b u))
-        (factors-exteriors p q h n (λ i. A .times x (a i)) (λ i. A .times y (b i)) u
-        ∙ sum-same (2 ^ length p) _ _ (λ j _. regroup x y (equality A p j) (equality A q j) n a b u))
+      (factors-exteriors p q h n (λ i. A .times x′ (a i)) (λ i. A .times y′ (b i)) u
+      ∙ sum-same (2 ^ length p) _ _ (λ j _. regroup x′ y′ (equality A p j) (equality A q j) n a b u))
+      (factors-exteriors p q h n (λ i. A .times x (a i)) (λ i. A .times y (b i)) u
+      ∙ sum-same (2 ^ length p) _ _ (λ j _. regroup x y (equality A p j) (equality A q j) n a b u))
       ∙ sym (sum-halves laws x y p q h (λ s t. exteriors n (λ i. A .times s (a i)) (λ i. A .times t (b i)) u))
 
   -- the equality element: the two tables' entries, index by index
@@ -110,8 +110,10 @@ module _ {k : ℕ} {A : Arithmetic k} (laws : Laws A) where
     where
       scaled : (x y : Element k) → Tensor k → Tensor k
       scaled x y t = add (scale-rows A (plus (A .unit) y) (scale-columns A (plus (A .unit) x) t)) (scale-rows A y (scale-columns A x t))
+
       n : ℕ
       n = 2 ^ length p
+
       both : (x y : Element k) (u : ℕ) → scale-rows A y (scale-columns A x (exteriors n (equality A p) (equality A q))) u
           ≡ exteriors n (λ i. A .times x (equality A p i)) (λ i. A .times y (equality A q i)) u
       both x y u =
@@ -148,18 +150,23 @@ module _ {k : ℕ} {A : Arithmetic k} (laws : Laws A) where
     where
       m : ℕ
       m = 2 ^ length p - 1
+
       settled : Tensor k
       settled = exterior (A .times (product A p) (plus (A .unit) x)) (A .times (product A (map (plus (A .unit)) q)) y)
+
       f : ℕ → ℕ → Element k
       f u i = exterior (equality A (x ∷ p) i) (equality A (y ∷ q) (suc i)) u
+
       lows : (u : ℕ) → length q ≡ length p → sum m (f u)
           ≡ sum m (λ i. exterior (A .times (plus (A .unit) x) (equality A p i)) (A .times (plus (A .unit) y) (equality A q (suc i))) u)
       lows u h = sum-same m _ _ (λ i l. ap₂ (λ s t. exterior s t u) (entry-low laws x p i (omega arith)) (entry-low laws y q (suc i) (rw h (omega arith))))
+
       mid : (u : ℕ) → length q ≡ length p → f u m ≡ settled u
       mid u h =
           ap₂ (λ s t. exterior s t u)
           (entry-low laws x p m (ones-lt (length p)) ∙ ap (A .times (plus (A .unit) x)) (entry-last laws p) ∙ laws .times-comm _ _)
           (ap (equality A (y ∷ q)) (rw h (omega (arith, suc-ones (length p)))) ∙ entry-high laws y q 0 (pow-pos (length q)) ∙ ap (A .times y) (entry-first laws q) ∙ laws .times-comm _ _)
+
       highs : (u : ℕ) → length q ≡ length p → sum m (λ i. f u (2 ^ length p + i))
           ≡ sum m (λ i. exterior (A .times x (equality A p i)) (A .times y (equality A q (suc i))) u)
       highs u h = sum-same m _ _ (λ i l. ap₂ (λ s t. exterior s t u) (entry-high laws x p i (omega arith)) (ap (equality A (y ∷ q)) (rw h (omega arith)) ∙ entry-high laws y q (suc i) (rw h (omega arith))))

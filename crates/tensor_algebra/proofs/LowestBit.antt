@@ -1,6 +1,6 @@
 -- The lowest set bit of a number.
-use mathlib.Core.Path.{_≡_, refl, sym, ap, ap₂, _∙_}
-use Prim.Native.Nat.{ℕ, zero, suc, _+_, _-_, _*_, _/_, _%_, _^_, _<_, _≤_}
+use mathlib.Core.Path.{_≡_, refl, ap, ap₂, _∙_}
+use Prim.Native.Nat.{ℕ, zero, suc, _+_, _-_, _*_, _/_, _%_, _^_, _<_}
 use native.Mathlib.Omega.{arith}
 use native.Mathlib.Nat.{pow-suc}
 use lib.Bits.{bitAnd, bitXor, and-shr, and-mod, and-self, xor-step, xor-zero-r, differ}
@@ -14,10 +14,13 @@ lowest-set (suc w) n p h = go (n % 2) refl (λ q. lowest-set w (n / 2) q (omega 
   where
     rest : (e : ℕ) → (n - 1) / 2 ≡ e → bitAnd n (n - 1) / 2 ≡ bitAnd (n / 2) e
     rest e q = and-shr n (n - 1) 1 ∙ ap (bitAnd (n / 2)) q
+
     even : (d e : ℕ) → n % 2 ≡ d → (n - 1) % 2 ≡ e → bitAnd n (n - 1) % 2 ≡ bitAnd d e
     even d e q r = and-mod n (n - 1) 1 ∙ ap₂ bitAnd q r
+
     joined : (a b c : ℕ) → a % 2 ≡ 0 → b % 2 ≡ c → bitXor a b ≡ bitXor (a / 2) (b / 2) * 2 + differ 0 c
     joined a b c q r = xor-step a b ∙ ap₂ (λ i j. bitXor (a / 2) (b / 2) * 2 + differ i j) q r
+
     go : (d : ℕ) → n % 2 ≡ d → (0 < n / 2 → bitXor (bitAnd (n / 2) (n / 2 - 1)) (2 ^ trailingZeros w (n / 2)) ≡ n / 2)
         → bitXor (bitAnd n (n - 1)) (2 ^ under d (trailingZeros w (n / 2))) ≡ n
     go zero q ih =

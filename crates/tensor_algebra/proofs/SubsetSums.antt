@@ -1,16 +1,16 @@
 -- Sums over an element's set coordinates: linear in the element, and by its bytes.
-use mathlib.Core.Path.{_≡_, refl, sym, ap, ap₂, _∙_}
+use mathlib.Core.Path.{_≡_, refl, sym, ap, _∙_}
 use Prim.Native.Nat.{ℕ, zero, suc, _+_, _-_, _*_, _/_, _%_, _^_, _<_, _≤_}
 use native.Mathlib.Omega.{arith}
 use native.Mathlib.Nat.{mul-comm, zero-div}
 use lib.Bits.{bitAnd, bitXor, xor-shr, xor-mod}
 use lib.Count.{trailingZeros}
-use lib.Pow.{pow-add, pow-mono, shl-shr}
+use lib.Pow.{pow-add, pow-mono}
 use Rattle.level.specs.Element.{Element, width, coordinate, plus, zeros}
 use Rattle.level.specs.Laws.{Arithmetic, Laws}
 use Rattle.level.proofs.Digits.{bit-of-byte}
-use Rattle.multilinear.specs.Sums.{sum, at-bit, where-set}
-use Rattle.multilinear.proofs.Sums.{sum-same, sum-none, sum-plus, sum-rows, at-bit-zeros, at-bit-sum, times-sum, times-at-bit}
+use Rattle.multilinear.specs.Sums.{sum, at-bit}
+use Rattle.multilinear.proofs.Sums.{sum-same, sum-none, sum-plus, sum-rows, times-sum, times-at-bit}
 use Rattle.multilinear.proofs.Coordinates.{coordinate-zeros}
 use Rattle.tensor_algebra.specs.Tensor.{subset-sum}
 use Rattle.tensor_algebra.specs.Subsets.{basis, byte, byte-sum, Subset-sums-are-linear, Subset-sums-by-bytes}

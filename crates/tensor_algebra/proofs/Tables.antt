@@ -1,9 +1,9 @@
 -- Equality tables by their halves, their first and their last entry, and sums over them.
 use mathlib.Core.Path.{_≡_, refl, sym, ap, ap₂, _∙_}
-use mathlib.Core.List.{[], _∷_, _++_, map}
-use Prim.Native.Nat.{ℕ, zero, suc, _+_, _-_, _*_, _/_, _%_, _^_, _<_}
+use mathlib.Core.List.{[], _∷_, map}
+use Prim.Native.Nat.{ℕ, suc, _+_, _-_, _*_, _^_, _<_}
 use native.Mathlib.Omega.{arith}
-use native.Mathlib.Nat.{zero-add, one-mul, zero-mul, pow-suc}
+use native.Mathlib.Nat.{one-mul, zero-mul, pow-suc}
 use lib.ListN.{length}
 use lib.Pow.{pow-pos, ones-lt}
 use Rattle.level.specs.Element.{Element, plus}
@@ -51,12 +51,12 @@ module _ {k : ℕ} {A : Arithmetic k} (laws : Laws A) where
   pub sum-halves : (x y : Element k) (p q : Point k) → length q ≡ length p → (g : Element k → Element k → Element k)
       → sum (2 ^ suc (length p)) (λ i. g (equality A (x ∷ p) i) (equality A (y ∷ q) i))
       ≡ plus
-        (sum (2 ^ length p) (λ i. g (A .times (plus (A .unit) x) (equality A p i)) (A .times (plus (A .unit) y) (equality A q i))))
-        (sum (2 ^ length p) (λ i. g (A .times x (equality A p i)) (A .times y (equality A q i))))
+      (sum (2 ^ length p) (λ i. g (A .times (plus (A .unit) x) (equality A p i)) (A .times (plus (A .unit) y) (equality A q i))))
+      (sum (2 ^ length p) (λ i. g (A .times x (equality A p i)) (A .times y (equality A q i))))
   sum-halves x y p q e g =
       let n = 2 ^ length p in
       let f : ℕ → Element k = λ i. g (equality A (x ∷ p) i) (equality A (y ∷ q) i) in
       ap (λ m. sum m f) (double (length p)) ∙ sum-append n n f
       ∙ ap₂ plus
-        (sum-same n _ _ (λ i h. ap₂ g (entry-low x p i h) (entry-low y q i (rw e h))))
-        (sum-same n _ _ (λ i h. ap₂ g (entry-high x p i h) (ap (λ l. equality A (y ∷ q) (2 ^ l + i)) (sym e) ∙ entry-high y q i (rw e h))))
+      (sum-same n _ _ (λ i h. ap₂ g (entry-low x p i h) (entry-low y q i (rw e h))))
+      (sum-same n _ _ (λ i h. ap₂ g (entry-high x p i h) (ap (λ l. equality A (y ∷ q) (2 ^ l + i)) (sym e) ∙ entry-high y q i (rw e h))))
