@@ -1,0 +1,2 @@
+pub mod Slot_prefix
+pub mod Slot_tensors

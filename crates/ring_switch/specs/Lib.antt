@@ -1,3 +1,4 @@
 pub mod Opening
 pub mod Claims
 pub mod Batching
+pub mod Slots
