@@ -37,7 +37,7 @@ before-in : (r s i : ℕ) → starts r i ≡ false → s + i - 1 ≡ s + (i - 1)
 before-in r s i e = omega (arith, starts-not r i e)
 
 module _ {k : ℕ} where
-  exterior-zeros : (b : Element k) (u : ℕ) → exterior (zeros k) b u ≡ zeros k
+  pub exterior-zeros : (b : Element k) (u : ℕ) → exterior (zeros k) b u ≡ zeros k
   unfolding exterior at-bit
   exterior-zeros b u = ap (λ n. at-bit n b) (coordinate-zeros k u)
 

@@ -2,3 +2,4 @@ pub mod Opening
 pub mod Claims
 pub mod Batching
 pub mod Slots
+pub mod Claim_laws

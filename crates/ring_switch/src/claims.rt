@@ -1,0 +1,8 @@
+ghost use Rattle.ring_switch.specs.Claim_laws.{Incoming-is-multilinear};
+
+// The columns of a table's tensor, against the equality table of the low coordinates, give the multilinear value of the table.
+pub fn incoming_is_multilinear() -> u8
+    ensures { λ _. ⌜ Incoming-is-multilinear ⌝ }
+{
+    0
+}
