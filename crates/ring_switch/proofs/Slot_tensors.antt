@@ -22,19 +22,8 @@ use Rattle.tensor_algebra.specs.Tensor.{exterior}
 use Rattle.ring_switch.specs.Opening.{View, high, prefix, rest, slot-start, limit}
 use Rattle.ring_switch.specs.Claims.{starts, ends, tensor, carry, last}
 use Rattle.ring_switch.specs.Slots.{Slot, Stepped-slot, Slots-stand, Stepped-slots-stand, packed-count, slot-count, in-slot}
+use Rattle.ring_switch.proofs.Columns_bounds.{shift-mod, before-in, pow-multiple}
 use Rattle.ring_switch.proofs.Slot_prefix.{prefix-selected, prefix-limit, after-within, after-inside, after-outside}
-
--- a multiple of a number added changes no remainder
-shift-mod : (s i m : ℕ) → s % m ≡ 0 → (s + i) % m ≡ i % m
-shift-mod s i m e = sym (mod-add-mod s m i) ∙ ap (λ n. (n + i) % m) e ∙ ap (λ n. n % m) (zero-add i)
-
--- what starts no column is not the first of all
-starts-not : (r i : ℕ) → starts r i ≡ false → 0 < i
-starts-not r zero e = absurd (eqb-false (0 % 2 ^ r) 0 e (zero-mod (2 ^ r)))
-starts-not r (suc i) e = omega arith
-
-before-in : (r s i : ℕ) → starts r i ≡ false → s + i - 1 ≡ s + (i - 1)
-before-in r s i e = omega (arith, starts-not r i e)
 
 module _ {k : ℕ} where
   pub exterior-zeros : (b : Element k) (u : ℕ) → exterior (zeros k) b u ≡ zeros k
@@ -80,13 +69,6 @@ module _ {k : ℕ} where
 
         inner : (i : ℕ) → i < l → starts r i ≡ false → exterior (e (s + i - 1)) (t (s + i)) u ≡ exterior (e′ (i - 1)) (t (s + i)) u
         inner i h y = ap (λ x. exterior x (t (s + i)) u) (ap e (before-in r s i y) ∙ o .inside (i - 1) (omega arith))
-
--- a higher power of two, and any multiple of it, is a multiple of a lower one
-pow-multiple : (a n r : ℕ) → r ≤ n → a * 2 ^ n % 2 ^ r ≡ 0
-pow-multiple a n r h =
-    let e : n ≡ n - r + r = omega arith in
-    ap (λ m. a * m % 2 ^ r) (ap (λ m. 2 ^ m) e ∙ pow-add 2 (n - r) r) ∙ ap (λ m. m % 2 ^ r) (sym (mul-assoc a (2 ^ (n - r)) (2 ^ r)))
-    ∙ mul-mod-left (a * 2 ^ (n - r)) (2 ^ r)
 
 module _ {k : ℕ} {A : Arithmetic k} (laws : Laws A) (p : Point k) where
   high-length : length (high p) ≡ length p - k
