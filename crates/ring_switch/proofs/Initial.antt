@@ -15,7 +15,7 @@ use Rattle.tensor_algebra.specs.Tensor.{subset-sum}
 use Rattle.tensor_algebra.proofs.Rows.{batch-exteriors}
 use Rattle.ring_switch.specs.Claims.{starts, ends, tensor, carry, last}
 use Rattle.ring_switch.specs.Batching.{Stepping, settled, weight, successor-rows, initial-sum}
-use Rattle.ring_switch.specs.Batched.{Rows-are-batched, Steps-over, Initial-sum-is-weighted}
+use Rattle.ring_switch.specs.Batching_laws.{Rows-are-batched, Steps-over, Initial-sum-is-weighted}
 
 pub rows-are-batched : Rows-are-batched
 unfolding tensor carry last where-set

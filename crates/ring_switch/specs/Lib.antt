@@ -1,4 +1,6 @@
 pub mod Opening
 pub mod Claims
 pub mod Batching
-pub mod Batched
+pub mod Slots
+pub mod Claim_laws
+pub mod Batching_laws

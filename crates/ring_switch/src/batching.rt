@@ -1,5 +1,5 @@
 // Batched rows, and the initial sum that they come to.
-ghost use Rattle.ring_switch.specs.Batched.{Rows-are-batched, Initial-sum-is-weighted};
+ghost use Rattle.ring_switch.specs.Batching_laws.{Rows-are-batched, Initial-sum-is-weighted};
 
 // The batched rows of a tensor, a carry and a last are sums over the packed elements.
 pub fn rows_are_batched() -> u8

@@ -1,5 +1,5 @@
 // The closing value at the point where a slot's claim ends.
-ghost use Rattle.ring_switch.specs.Batched.{Closing-elements-are-tensors, Closing-is-multilinear};
+ghost use Rattle.ring_switch.specs.Batching_laws.{Closing-elements-are-tensors, Closing-is-multilinear};
 
 // The closing elements are sums of exterior products over the slot's hypercube.
 pub fn closing_elements_are_tensors() -> u8

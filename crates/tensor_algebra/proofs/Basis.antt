@@ -12,9 +12,10 @@ use Rattle.level.proofs.Elements.{cut-is}
 use Rattle.multilinear.specs.Sums.{sum, at-bit, where-set}
 use Rattle.multilinear.proofs.Sums.{sum-same}
 use Rattle.multilinear.proofs.Coordinates.{coordinate-binary, coordinate-zeros}
+use Rattle.multilinear.proofs.Windows.{sum-single}
 use Rattle.tensor_algebra.specs.Tensor.{Tensor, exterior, subset-sum}
 use Rattle.tensor_algebra.specs.Subsets.{basis}
-use Rattle.tensor_algebra.proofs.Chosen.{where-in, where-out, sum-chosen}
+use Rattle.tensor_algebra.proofs.Kept.{where-in, where-out}
 use Rattle.tensor_algebra.proofs.Columns.{column-same, column-exterior, column-sum}
 
 -- the binary digits of a power of two
@@ -60,7 +61,7 @@ module _ {k : ℕ} where
   -- a tensor from its rows: row i stands at coordinate i alone
   pub rows-by-basis : (t : Tensor k) (u : ℕ) → u < width k → t u ≡ sum (width k) (λ i. exterior (basis k i) (t i) u)
   unfolding exterior
-  rows-by-basis t u h = sym (sum-same (width k) _ _ (λ i l. basis-at i u (t i) l) ∙ sum-chosen (width k) u t h)
+  rows-by-basis t u h = sym (sum-same (width k) _ _ (λ i l. basis-at i u (t i) l) ∙ sum-single (width k) u h t)
 
   -- an element from its coordinates: the basis elements of those that are set
   pub by-basis : (x : Element k) → subset-sum (basis k) x ≡ x

@@ -1,4 +1,4 @@
-use Rattle.tensor_algebra.proofs.BucketSums.{rows-from-buckets}
+use Rattle.tensor_algebra.proofs.Bucket_sums.{rows-from-buckets}
 use Rattle.tensor_algebra.proofs.buckets.rows_from_buckets.Needs as need
 
 pub returns : need.returns

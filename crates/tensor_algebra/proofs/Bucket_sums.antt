@@ -8,10 +8,10 @@ use Rattle.level.specs.Laws.{Arithmetic, Laws}
 use Rattle.level.proofs.Digits.{bit-of-byte}
 use Rattle.multilinear.specs.Sums.{sum, at-bit, where-set}
 use Rattle.multilinear.proofs.Sums.{sum-same, sum-exchange, at-bit-sum}
+use Rattle.multilinear.proofs.Windows.{sum-single, at-bit-where}
 use Rattle.tensor_algebra.specs.Tensor.{Tensor, exterior, scale-columns}
 use Rattle.tensor_algebra.specs.Subsets.{basis, byte}
 use Rattle.tensor_algebra.specs.Buckets.{bucket, Rows-from-buckets, Columns-are-scaled}
-use Rattle.tensor_algebra.proofs.Chosen.{sum-chosen, at-bit-where}
 use Rattle.tensor_algebra.proofs.Columns.{scale-columns-same, scale-columns-exteriors}
 use Rattle.tensor_algebra.proofs.Basis.{eqb-comm, rows-by-basis}
 
@@ -22,7 +22,7 @@ module _ {k : ℕ} where
   unfolding exterior
   one-bucket a b j i h =
       sum-same 256 _ _ (λ s _. at-bit-where (s / 2 ^ i % 2) (eqb (byte a j) s) b ∙ ap (λ c. where-set c (at-bit (s / 2 ^ i % 2) b)) (eqb-comm (byte a j) s))
-      ∙ sum-chosen 256 (byte a j) (λ s. at-bit (s / 2 ^ i % 2) b) (omega arith)
+      ∙ sum-single 256 (byte a j) (omega arith) (λ s. at-bit (s / 2 ^ i % 2) b)
       ∙ ap (λ c. at-bit c b) (bit-of-byte (a .number) (8 * j) i h)
 
   pub row-from-buckets : (a b : ℕ → Element k) (n j i : ℕ) → i < 8

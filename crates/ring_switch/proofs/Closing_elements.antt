@@ -18,13 +18,14 @@ use Rattle.multilinear.specs.Sums.{sum, where-set}
 use Rattle.multilinear.specs.Equality.{Point, equality, multilinear}
 use Rattle.multilinear.proofs.Sums.{sum-same, sum-rows, sum-first}
 use Rattle.multilinear.proofs.Entries.{entry-parts}
+use Rattle.multilinear.proofs.Windows.{sum-single}
 use Rattle.tensor_algebra.specs.Tensor.{exterior, product, batch-rows, equality-element, successor-element, equality-factors}
-use Rattle.tensor_algebra.proofs.Chosen.{where-in, where-out, sum-chosen}
+use Rattle.tensor_algebra.proofs.Kept.{where-in, where-out}
 use Rattle.tensor_algebra.proofs.Tables.{entry-last}
 use Rattle.tensor_algebra.proofs.Factors.{exteriors, equality-exteriors, successor-exteriors, factors-exteriors}
 use Rattle.ring_switch.specs.Claims.{starts, ends, tensor, carry, last}
 use Rattle.ring_switch.specs.Batching.{Stepping, weight, successor-rows, initial-sum, carry-element, last-element, closing-value}
-use Rattle.ring_switch.specs.Batched.{Rows-within, Closing-elements-are-tensors, Closing-is-multilinear}
+use Rattle.ring_switch.specs.Batching_laws.{Rows-within, Closing-elements-are-tensors, Closing-is-multilinear}
 use Rattle.ring_switch.proofs.Initial.{initial-weighted}
 
 module _ {k : ℕ} {A : Arithmetic k} (laws : Laws A) where
@@ -84,7 +85,7 @@ module _ {k : ℕ} {A : Arithmetic k} (laws : Laws A) where
     last-column j u =
         sum-same spanned _ _ (λ i h. ap₂ (λ m x. where-set (eqb m (spanned - 1)) x) (digits-mod j h)
         (ap₂ (λ s t. exterior s t u) (first-parts j i h) (second-parts j i h)))
-        ∙ sum-chosen spanned (spanned - 1) (λ i. exterior (A .times (equality A a j) (equality A b i)) (A .times (equality A c j) (equality A d i)) u) (ones-lt (length b))
+        ∙ sum-single spanned (spanned - 1) (ones-lt (length b)) (λ i. exterior (A .times (equality A a j) (equality A b i)) (A .times (equality A c j) (equality A d i)) u)
         ∙ ap₂ (λ s t. exterior (A .times (equality A a j) s) (A .times (equality A c j) t) u) (entry-last laws b)
         (ap (λ l. equality A d (2 ^ l - 1)) (sym eb) ∙ entry-last laws d)
         ∙ sym (zeros-plus _)

@@ -12,12 +12,12 @@ use Rattle.level.proofs.Digits.{bit-of-byte}
 use Rattle.multilinear.specs.Sums.{sum, at-bit}
 use Rattle.multilinear.proofs.Sums.{sum-same, sum-none, sum-plus, sum-rows, times-sum, times-at-bit}
 use Rattle.multilinear.proofs.Coordinates.{coordinate-zeros}
+use Rattle.multilinear.proofs.Windows.{sum-single}
 use Rattle.tensor_algebra.specs.Tensor.{subset-sum}
 use Rattle.tensor_algebra.specs.Subsets.{basis, byte, byte-sum, Subset-sums-are-linear, Subset-sums-by-bytes}
-use Rattle.tensor_algebra.proofs.Chosen.{sum-chosen}
 use Rattle.tensor_algebra.proofs.Columns.{at-plus, at-bit-xor}
 use Rattle.tensor_algebra.proofs.Basis.{at-power, at-basis, by-basis}
-use Rattle.tensor_algebra.proofs.LowestBit.{lowest-set, lowest-below}
+use Rattle.tensor_algebra.proofs.Lowest_bit.{lowest-set, lowest-below}
 
 module _ {k : ℕ} (f : ℕ → Element k) where
   pub subset-zeros : subset-sum f (zeros k) ≡ zeros k
@@ -40,7 +40,7 @@ module _ {k : ℕ} (f : ℕ → Element k) where
 
   pub subset-basis : (u : ℕ) → u < width k → subset-sum f (basis k u) ≡ f u
   unfolding subset-sum
-  subset-basis u h = sum-same (width k) _ _ (λ v _. at-basis u v (f v) h) ∙ sum-chosen (width k) u f h
+  subset-basis u h = sum-same (width k) _ _ (λ v _. at-basis u v (f v) h) ∙ sum-single (width k) u h f
 
   pub subset-times : {A : Arithmetic k} → Laws A → (a x : Element k)
       → subset-sum f (A .times a x) ≡ subset-sum (λ u. subset-sum f (A .times a (basis k u))) x
@@ -80,7 +80,7 @@ module _ {k : ℕ} (f : ℕ → Element k) where
       ap (λ n. at-bit n (f (8 * j + b))) (ap (λ n. n % 2) (xor-shr s (2 ^ t) b) ∙ xor-mod (s / 2 ^ b) (2 ^ t / 2 ^ b) 1)
       ∙ at-bit-xor (s / 2 ^ b % 2) (2 ^ t / 2 ^ b % 2) (f (8 * j + b)) (omega arith) (omega arith)
       ∙ ap (plus (at-bit (s / 2 ^ b % 2) (f (8 * j + b)))) (at-power t b (f (8 * j + b))))
-      ∙ sum-plus 8 _ _ ∙ ap (plus (byte-sum f j s)) (sum-chosen 8 t (λ b. f (8 * j + b)) h)
+      ∙ sum-plus 8 _ _ ∙ ap (plus (byte-sum f j s)) (sum-single 8 t h (λ b. f (8 * j + b)))
 
   pub byte-extends : (j s w : ℕ) → 0 < s → s < 256 → 8 ≤ w
       → byte-sum f j s ≡ plus (byte-sum f j (bitAnd s (s - 1))) (f (8 * j + trailingZeros w s))
