@@ -6,10 +6,14 @@ use native.Mathlib.Omega.{arith}
 use native.Mathlib.Nat.{mod-eq-of-lt}
 use lib.ListN.{getD}
 use lib.Bits.{bitXor, xor-mod}
-use Rattle.level.specs.Element.{Element, width, cut, plus}
+use Rattle.level.specs.Element.{Element, width, cut, plus, zeros}
 use Rattle.level.specs.Laws.{Arithmetic, Laws}
 use Rattle.level.specs.Bytes.{digits, le-number, sixteen, from-sixteen}
 use Rattle.level.proofs.Elements.{same, cut-is, cut-number}
+
+pub zero-is : cut 3 0 ≡ zeros 3
+unfolding cut zeros
+zero-is = same _ _ refl
 
 pub cut-plus : (k a b : ℕ) → cut k (bitXor a b) ≡ plus (cut k a) (cut k b)
 unfolding cut plus
@@ -39,5 +43,5 @@ first-of-sixteen [] = refl
 first-of-sixteen (b ∷ bs) = same _ _ (omega arith)
 
 -- one by its bits on the left
-pub one-times : {A : Arithmetic 3} → Laws A → A .unit ≡ cut 3 1 → (x : Element 3) → A .times (cut 3 1) x ≡ x
-one-times {A} laws e x = laws .times-comm (cut 3 1) x ∙ ap (A .times x) (sym e) ∙ laws .times-unit x
+pub one-times : {A : Arithmetic 3} → Laws A → cut 3 1 ≡ A .unit → (x : Element 3) → A .times (cut 3 1) x ≡ x
+one-times {A} laws e x = laws .times-comm (cut 3 1) x ∙ ap (A .times x) e ∙ laws .times-unit x

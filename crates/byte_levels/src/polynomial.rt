@@ -2,6 +2,10 @@ ghost use mathlib.Core.Path.{_≡_};
 ghost use Rattle.level.specs.Element.{cut};
 ghost use Rattle.polynomial.specs.Polynomial.{polynomial};
 ghost use Rattle.byte_levels.specs.PolynomialSteps.{xtime as by-x, multiples as multiples-of};
+use crate::bits::equal;
+use crate::bits::from_sixteen;
+use crate::bits::sum;
+use crate::bits::to_sixteen;
 use crate::combine::combine;
 use level::level::Level;
 
@@ -62,7 +66,7 @@ pub impl Level for PolynomialByte as PolynomialByteLevel {
 
     fn add(self, other: Self) -> Self {
         PolynomialByte {
-            value: self.value ^ other.value,
+            value: sum(self.value, other.value),
         }
     }
 
@@ -77,14 +81,16 @@ pub impl Level for PolynomialByte as PolynomialByteLevel {
     }
 
     fn equals(self, other: Self) -> bool {
-        self.value == other.value
+        equal(self.value, other.value)
     }
 
     fn to_bytes(self) -> [u8; 16] {
-        [self.value, 0, 0, 0, 0, 0, 0, 0, 0, 0, 0, 0, 0, 0, 0, 0]
+        to_sixteen(self.value)
     }
 
     fn from_bytes(bytes: [u8; 16]) -> Self {
-        PolynomialByte { value: bytes[0] }
+        PolynomialByte {
+            value: from_sixteen(bytes),
+        }
     }
 }

@@ -3,6 +3,10 @@ ghost use lib.Bits.{bitXor};
 ghost use Rattle.level.specs.Element.{cut};
 ghost use Rattle.doubling.specs.Doubled.{tower};
 ghost use Rattle.byte_levels.specs.TowerSteps.{times-x0, times-x1, times-x2, low-multiples};
+use crate::bits::equal;
+use crate::bits::from_sixteen;
+use crate::bits::sum;
+use crate::bits::to_sixteen;
 use crate::combine::combine;
 use level::level::Level;
 
@@ -73,7 +77,7 @@ pub impl Level for TowerByte as TowerByteLevel {
 
     fn add(self, other: Self) -> Self {
         TowerByte {
-            value: self.value ^ other.value,
+            value: sum(self.value, other.value),
         }
     }
 
@@ -90,14 +94,16 @@ pub impl Level for TowerByte as TowerByteLevel {
     }
 
     fn equals(self, other: Self) -> bool {
-        self.value == other.value
+        equal(self.value, other.value)
     }
 
     fn to_bytes(self) -> [u8; 16] {
-        [self.value, 0, 0, 0, 0, 0, 0, 0, 0, 0, 0, 0, 0, 0, 0, 0]
+        to_sixteen(self.value)
     }
 
     fn from_bytes(bytes: [u8; 16]) -> Self {
-        TowerByte { value: bytes[0] }
+        TowerByte {
+            value: from_sixteen(bytes),
+        }
     }
 }
