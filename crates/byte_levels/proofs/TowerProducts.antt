@@ -4,7 +4,7 @@ use Prim.Native.Nat.{ℕ, zero, suc, _/_, _%_, _^_, _<_}
 use native.Mathlib.Omega.{arith}
 use lib.Bits.{bitXor}
 use lib.ListN.{getD}
-use Rattle.level.specs.Element.{Element, cut, plus, zeros}
+use Rattle.level.specs.Element.{cut, plus, zeros}
 use Rattle.level.proofs.Elements.{same, cut-number}
 use Rattle.doubling.specs.Doubled.{bit, low, high, join, doubled, tower}
 use Rattle.doubling.proofs.Rings.{tower-laws, plus-times}
@@ -52,7 +52,7 @@ multiple-is b h (suc (suc (suc zero))) l =
 multiple-is b h (suc (suc (suc (suc i)))) l = absurd (omega arith)
 
 -- four bits times b
-pub low-product : (a b : ℕ) → a < 2 ^ 4 → b < 2 ^ 8 → cut 3 (selected a (low-multiples b)) ≡ tower 3 .times (cut 3 a) (cut 3 b)
+low-product : (a b : ℕ) → a < 2 ^ 4 → b < 2 ^ 8 → cut 3 (selected a (low-multiples b)) ≡ tower 3 .times (cut 3 a) (cut 3 b)
 low-product a b ha hb = cut-of _ _ (selected-times (tower-laws 3) b 4 (low-multiples b) (multiple-is b hb) a ha)
 
 pub tower-product : (a b l h r : ℕ) → a < 2 ^ 8 → b < 2 ^ 8 → h < 2 ^ 8 → l ≡ selected a (low-multiples b) → h ≡ selected (a / 2 ^ 4) (low-multiples b) → r ≡ times-x2 h → cut 3 (bitXor l r) ≡ tower 3 .times (cut 3 a) (cut 3 b)

@@ -5,6 +5,7 @@ ghost use Rattle.level.specs.Element.{cut, plus};
 
 // What every level of eight coordinates does alike when coordinate i is bit i of a byte.
 
+// The sum: the exclusive-or of the coordinates.
 pub fn sum(a: u8, b: u8) -> u8
     ensures { λ r. ⌜ cut 3 r ≡ plus (cut 3 a) (cut 3 b) ⌝ }
 {

@@ -15,7 +15,7 @@ pub struct PolynomialByte {
     pub value: u8,
 }
 
-// The product by X.
+// The product by X, as FIPS 197 names it.
 fn xtime(b: u8) -> u8
     ensures { λ r. ⌜ r ≡ by-x b ⌝ }
 {
@@ -35,6 +35,7 @@ fn multiples(b: u8) -> [u8; 8]
     [b, b1, b2, b3, b4, b5, b6, xtime(b6)]
 }
 
+// a·b is the sum of X^i·b over the set bits i of a.
 fn product(a: u8, b: u8) -> u8
     ensures { λ r. ⌜ cut 3 r ≡ polynomial .times (cut 3 a) (cut 3 b) ⌝ }
 {
@@ -61,7 +62,7 @@ pub impl Level for PolynomialByte as PolynomialByteLevel {
     }
 
     fn generator() -> Self {
-        PolynomialByte { value: 1 }
+        PolynomialByte { value: 0x01 }
     }
 
     fn add(self, other: Self) -> Self {

@@ -1,5 +1,4 @@
 ghost use mathlib.Core.Path.{_≡_};
-ghost use lib.Bits.{bitXor};
 ghost use Rattle.level.specs.Element.{cut};
 ghost use Rattle.doubling.specs.Doubled.{tower};
 ghost use Rattle.byte_levels.specs.TowerSteps.{times-x0, times-x1, times-x2, low-multiples};
@@ -36,7 +35,7 @@ fn times_x2(b: u8) -> u8
     (b >> 4) ^ (b << 4) ^ times_x1(b & 0xf0)
 }
 
-// The products of b by 1, x0, x1 and x0·x1.
+// The products of b by 1, x0, x1 and x0·x1, the elements of the low four bits.
 fn low_multiples(b: u8) -> [u8; 4]
     ensures { λ r. ⌜ r ≡ low-multiples b ⌝ }
 {

@@ -1,7 +1,7 @@
 -- The halves of a joined element, an element joined from its halves, and sums by halves.
 use mathlib.Core.Path.{_≡_, refl, sym, ap, ap₂, _∙_}
 use Prim.Native.Nat.{ℕ, suc, _+_, _*_, _/_, _%_, _^_, _<_}
-use lib.Pow.{split}
+use lib.Pow.{split} 
 use lib.Pow.{high as div-high, low as mod-low}
 use lib.Bits.{xor-block, xor-shr, xor-mod}
 use Rattle.level.specs.Element.{Element, width, cut, zeros, plus}
