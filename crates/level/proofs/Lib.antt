@@ -1,3 +1,4 @@
 pub mod Elements
 pub mod Digits
 pub mod Words
+pub mod Ands

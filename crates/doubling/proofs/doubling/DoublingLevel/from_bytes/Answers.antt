@@ -25,4 +25,4 @@ returns g c =
     let k : m .log < 7 = omega (arith, c .log-width-k .ensures, c .if-k-ge7 .left) in
     let same : c .log-width-k .result ≡ m .log = omega (arith, c .log-width-k .ensures) in
     let w : c .coordinates .result ≡ 2 ^ m .log = c .coordinates .ensures ∙ ap (λ n. 2 ^ n) same in
-    from-narrow bs _ k bits w (c .upper-above .ensures) (to-le-bytes _ (c .to-le-bytes .result) (c .to-le-bytes .ensures)) (c .from-bytes-low .ensures) (c .from-bytes .ensures)
+    from-narrow bs _ k bits w (c .upper-above .ensures) (to-le-bytes (c .upper-above .result) (c .to-le-bytes .result) (c .to-le-bytes .ensures)) (c .from-bytes-low .ensures) (c .from-bytes .ensures)
