@@ -6,7 +6,7 @@ use Rattle.level.specs.Laws.{Arithmetic, Laws}
 use Rattle.level.proofs.Elements.{plus-assoc, plus-comm, zeros-plus, plus-left-comm, plus-cancel}
 use Rattle.doubling.specs.Doubled.{join, doubled, high-by-sums}
 use Rattle.doubling.proofs.Join.{low-join, high-join}
-use Rattle.doubling.proofs.Rings.{plus-times, times-zeros}
+use Rattle.level.proofs.Ring.{plus-times, times-zeros}
 
 module _ {k : ℕ} {A : Arithmetic k} (laws : Laws A) where
   zeros-times : (x : Element k) → A .times (zeros k) x ≡ zeros k

@@ -7,6 +7,7 @@ use Rattle.level.specs.Element.{Element, zeros, plus, cut}
 use Rattle.level.specs.Laws.{Arithmetic, Laws}
 use Rattle.level.proofs.Ands.{and-assoc, and-xor}
 use Rattle.level.proofs.Elements.{same, plus-assoc, plus-comm, plus-zeros, zeros-plus, plus-self, plus-left-comm}
+use Rattle.level.proofs.Ring.{times-left-comm, times-zeros, plus-times}
 use Rattle.doubling.specs.Doubled.{bit, low, high, doubled, tower}
 use Rattle.doubling.proofs.Join.{low-join, high-join, by-halves, low-plus, high-plus}
 
@@ -28,15 +29,6 @@ unfolding doubled
 high-doubled A x y = high-join _ _
 
 module _ {k : ℕ} {A : Arithmetic k} (laws : Laws A) where
-  pub times-left-comm : (x y z : Element k) → A .times x (A .times y z) ≡ A .times y (A .times x z)
-  times-left-comm x y z = sym (laws .times-assoc x y z) ∙ ap (λ w. A .times w z) (laws .times-comm x y) ∙ laws .times-assoc y x z
-
-  pub times-zeros : (x : Element k) → A .times x (zeros k) ≡ zeros k
-  times-zeros x = ap (A .times x) (sym (plus-self (zeros k))) ∙ laws .times-plus x (zeros k) (zeros k) ∙ plus-self (A .times x (zeros k))
-
-  pub plus-times : (x y z : Element k) → A .times (plus x y) z ≡ plus (A .times x z) (A .times y z)
-  plus-times x y z = laws .times-comm (plus x y) z ∙ laws .times-plus z x y ∙ ap₂ plus (laws .times-comm z x) (laws .times-comm z y)
-
   low-unit : low (doubled A .unit) ≡ A .unit
   unfolding doubled
   low-unit = low-join _ _
@@ -48,15 +40,15 @@ module _ {k : ℕ} {A : Arithmetic k} (laws : Laws A) where
   pub doubled-laws : Laws (doubled A)
   doubled-laws = record {
     times-assoc = λ x y z. by-halves _ _
-        (simp (low-doubled, high-doubled, laws .times-plus, plus-times, laws .times-assoc, laws .times-comm, times-left-comm, plus-assoc, plus-comm, plus-left-comm))
-        (simp (low-doubled, high-doubled, laws .times-plus, plus-times, laws .times-assoc, laws .times-comm, times-left-comm, plus-assoc, plus-comm, plus-left-comm));
+        (simp (low-doubled, high-doubled, laws .times-plus, plus-times laws, laws .times-assoc, laws .times-comm, times-left-comm laws, plus-assoc, plus-comm, plus-left-comm))
+        (simp (low-doubled, high-doubled, laws .times-plus, plus-times laws, laws .times-assoc, laws .times-comm, times-left-comm laws, plus-assoc, plus-comm, plus-left-comm));
     times-comm = λ x y. by-halves _ _ (simp (low-doubled, laws .times-comm)) (simp (high-doubled, laws .times-comm, plus-comm));
     times-plus = λ x y z. by-halves _ _
         (simp (low-doubled, low-plus, high-plus, laws .times-plus, plus-assoc, plus-comm, plus-left-comm))
         (simp (high-doubled, low-plus, high-plus, laws .times-plus, plus-assoc, plus-comm, plus-left-comm));
     times-unit = λ x. by-halves _ _
-        (simp (low-doubled, low-unit, high-unit, laws .times-unit, times-zeros, plus-zeros))
-        (simp (high-doubled, low-unit, high-unit, laws .times-unit, times-zeros, plus-zeros, zeros-plus));
+        (simp (low-doubled, low-unit, high-unit, laws .times-unit, times-zeros laws, plus-zeros))
+        (simp (high-doubled, low-unit, high-unit, laws .times-unit, times-zeros laws, plus-zeros, zeros-plus));
   }
 
 -- every pile of doublings over the bit

@@ -1,4 +1,5 @@
 pub mod Elements
 pub mod Digits
+pub mod Ring
 pub mod Words
 pub mod Ands

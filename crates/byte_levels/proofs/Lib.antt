@@ -1,0 +1,5 @@
+pub mod Coordinates
+pub mod Selected
+pub mod TowerProducts
+pub mod PolynomialProducts
+pub mod Examples

@@ -1,0 +1,5 @@
+pub mod Rows
+pub mod TowerSteps
+pub mod PolynomialSteps
+pub mod Bytes
+pub mod Worked

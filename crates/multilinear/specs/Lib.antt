@@ -1,0 +1,4 @@
+pub mod Sums
+pub mod Equality
+pub mod Gathered
+pub mod Cells

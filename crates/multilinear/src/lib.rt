@@ -1,0 +1,1 @@
+// Sums, equality tables, multilinear values and packed tables of bits, over any level: definitions and the laws that join them.

@@ -1,0 +1,5 @@
+pub mod Tests
+pub mod Linear
+pub mod Products
+pub mod Ring
+pub mod Division
