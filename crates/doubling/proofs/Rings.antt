@@ -1,12 +1,12 @@
 -- The bit shows the laws of a level, and so does the doubling of any level, whatever its generator.
-use mathlib.Core.Path.{_≡_, refl, sym, ap, ap₂, _∙_}
-use Prim.Native.Nat.{ℕ, zero, suc, _<_}
+use mathlib.Core.Path.{_≡_, _∙_}
+use Prim.Native.Nat.{ℕ, zero, suc}
 use native.Mathlib.Nat.{mod-eq-of-lt}
 use lib.Bits.{and-comm, and-mask}
 use Rattle.level.specs.Element.{Element, zeros, plus, cut}
 use Rattle.level.specs.Laws.{Arithmetic, Laws}
 use Rattle.level.proofs.Ands.{and-assoc, and-xor}
-use Rattle.level.proofs.Elements.{same, plus-assoc, plus-comm, plus-zeros, zeros-plus, plus-self, plus-left-comm}
+use Rattle.level.proofs.Elements.{same, plus-assoc, plus-comm, plus-zeros, zeros-plus, plus-left-comm}
 use Rattle.level.proofs.Ring.{times-left-comm, times-zeros, plus-times}
 use Rattle.doubling.specs.Doubled.{bit, low, high, doubled, tower}
 use Rattle.doubling.proofs.Join.{low-join, high-join, by-halves, low-plus, high-plus}

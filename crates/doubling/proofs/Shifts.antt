@@ -3,13 +3,13 @@ use mathlib.Core.Path.{_≡_, sym, ap, ap₂, _∙_}
 use mathlib.Core.List.{List}
 use Prim.Native.Nat.{ℕ, suc, _+_, _*_, _/_, _%_, _^_, _<_, _≤_}
 use native.Mathlib.Omega.{arith}
-use native.Mathlib.Nat.{mod-eq-of-lt, div-eq-of-lt, zero-mod}
+use native.Mathlib.Nat.{mod-eq-of-lt, div-eq-of-lt}
 use lib.Bits.{bitOr, or-shifted-r}
 use lib.Pow.{pow-mono, pow-lt, mod-pow-add, shl-exact}
 use lib.Pow.{low as mod-low}
 use Rattle.level.specs.Element.{Element, width, cut, zeros}
 use Rattle.level.specs.Bytes.{digits, le-number, sixteen, from-sixteen}
-use Rattle.level.proofs.Elements.{same}
+use Rattle.level.proofs.Elements.{same, cut-zero}
 use Rattle.level.proofs.Digits.{digits-mod}
 use Rattle.level.proofs.Words.{fewer-bits, from-digits}
 use Rattle.doubling.specs.Halves.{width-suc}
@@ -43,11 +43,11 @@ join-cut k n = same _ _ (sym (ap (λ w. n % 2 ^ w) (width-suc k) ∙ mod-pow-add
 -- where the low half takes all sixteen bytes, the high half is zero
 pub from-wide : {k : ℕ} (bs : List ℕ) {x y : Element k} → 7 ≤ k → le-number bs < 2 ^ 128 → x ≡ from-sixteen k bs → y ≡ zeros k
     → join x y ≡ from-sixteen (suc k) bs
-unfolding from-sixteen zeros cut
+unfolding from-sixteen
 from-wide {k} bs h l x y =
     let wide : 2 ^ 128 ≤ 2 ^ width k = pow-mono (pow-mono h) in
     let none : le-number bs / 2 ^ width k ≡ 0 = div-eq-of-lt (omega arith) in
-    let above : cut k (le-number bs / 2 ^ width k) ≡ zeros k = same _ _ (ap (λ n. n % 2 ^ width k) none ∙ zero-mod (2 ^ width k)) in
+    let above : cut k (le-number bs / 2 ^ width k) ≡ zeros k = ap (cut k) none ∙ cut-zero k in
     ap₂ join x (y ∙ sym above) ∙ join-cut k (le-number bs)
 
 -- otherwise the high half is in the bytes of the number, moved down by the width

@@ -6,7 +6,7 @@ use lib.Arith.{bin-ind}
 use lib.Bits.{bitAnd, bitXor, and-comm, and-shr, and-mod, xor-shr, xor-mod}
 
 -- what holds of 0 and of 1 holds of every bit
-bit-cases : (P : ℕ → Type 0) → P 0 → P 1 → (n : ℕ) → n < 2 → P n
+pub bit-cases : (P : ℕ → Type 0) → P 0 → P 1 → (n : ℕ) → n < 2 → P n
 bit-cases P a b zero h = a
 bit-cases P a b (suc zero) h = b
 bit-cases P a b (suc (suc n)) h = absurd (omega arith)
