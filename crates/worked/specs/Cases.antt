@@ -1,4 +1,4 @@
--- Small tables worked by hand, at the tower byte. Bytes and elements are in hexadecimal.
+-- Products and small tables worked by hand: at the tower byte, and one product at the polynomial byte.
 use mathlib.Core.Path.{_≡_}
 use mathlib.Core.List.{List, [], _∷_, _++_, map}
 use Prim.Native.Nat.{ℕ, zero, suc, _-_, _^_}
@@ -7,6 +7,7 @@ use Rattle.std.specs.declared.option.Option.{Option}
 use Rattle.std.specs.declared.option.Option.the-variants.{Some, None}
 use Rattle.level.specs.Element.{Element, cut}
 use Rattle.doubling.specs.Doubled.{tower}
+use Rattle.polynomial.specs.Polynomial.{polynomial}
 use Rattle.multilinear.specs.Cells.{cell, packed}
 use Rattle.multilinear.specs.Equality.{Point, equality}
 use Rattle.tensor_algebra.specs.Tensor.{Tensor}
@@ -63,6 +64,10 @@ abbrev pub weights-of : List ℕ → ℕ → ℕ
 weights-of p q = 2 ^ length (rest (tower 3) (point p) (Some q))
 
 pub record Worked : Type 0 where
+  pub tower-02-02 : (tower 3 .times (cut 3 0x02) (cut 3 0x02)) .number ≡ 0x03
+  pub tower-02-03 : (tower 3 .times (cut 3 0x02) (cut 3 0x03)) .number ≡ 0x01
+  pub tower-10-10 : (tower 3 .times (cut 3 0x10) (cut 3 0x10)) .number ≡ 0x41
+  pub polynomial-57-83 : (polynomial .times (cut 3 0x57) (cut 3 0x83)) .number ≡ 0xc1
   pub incoming-at-coordinate-4 : incoming-of (0x10 ∷ []) (0x02 ∷ 0x00 ∷ 0x00 ∷ []) ≡ 0x02
   pub successor-one-row-variable : successor-of (0x02 ∷ []) (0x00 ∷ 0x00 ∷ 0x00 ∷ []) 1 ≡ 0x01
   pub successor-no-row-variable : successor-of (0x02 ∷ []) (0x00 ∷ 0x00 ∷ 0x00 ∷ []) 0 ≡ 0x00
