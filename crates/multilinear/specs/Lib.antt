@@ -2,3 +2,4 @@ pub mod Sums
 pub mod Equality
 pub mod Gathered
 pub mod Cells
+pub mod Factored

@@ -72,7 +72,7 @@ agree (suc n) {f} {g} lf lg e a h =
     let r = a % 2 ^ n in
     let parts : bitXor (q * 2 ^ n) r ≡ a = xor-shifted q n r (mod-lt a (pow-pos n)) ∙ split a n in
     let top : f (q * 2 ^ n) ≡ g (q * 2 ^ n) =
-        bit-cases (λ b. f (b * 2 ^ n) ≡ g (b * 2 ^ n)) (rw zero-mul (at-zero lf ∙ sym (at-zero lg))) (rw one-mul (e n (omega arith))) q (shr-lt 1 n (rw one-add h)) in
+    bit-cases (λ b. f (b * 2 ^ n) ≡ g (b * 2 ^ n)) (rw zero-mul (at-zero lf ∙ sym (at-zero lg))) (rw one-mul (e n (omega arith))) q (shr-lt 1 n (rw one-add h)) in
     let rest : f r ≡ g r = agree n lf lg (λ i l. e i (omega arith)) r (mod-lt a (pow-pos n)) in
     ap f (sym parts) ∙ lf .at-sum (q * 2 ^ n) r ∙ ap₂ bitXor top rest ∙ sym (lg .at-sum (q * 2 ^ n) r) ∙ ap g parts
 

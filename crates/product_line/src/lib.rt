@@ -1,2 +1,3 @@
-// A line of text that asks for a product of two elements, and its answer.
+// A line of text that asks for the product of two elements of a level named by its letter, and the answer to it.
+pub mod letter;
 pub mod line;

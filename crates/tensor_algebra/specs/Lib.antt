@@ -1,1 +1,3 @@
 pub mod Tensor
+pub mod Subsets
+pub mod Buckets
