@@ -1,0 +1,4 @@
+// The values of the reduction, each computed straight from its definition: no tensors and no tables.
+// They are what the fast code is held to, and serve small tables as they are.
+pub mod cells;
+pub mod points;
