@@ -1,2 +1,5 @@
-pub mod Entry
 pub mod Means
+pub mod Entry
+pub mod Bits
+pub mod Summing
+pub mod Packing

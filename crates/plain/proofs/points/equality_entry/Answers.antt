@@ -25,7 +25,7 @@ loop-i-again g c =
     let pos : 0 < i = omega arith in
     let f = c .coordinate-factor .ensures in (
       entry-more (m .arithmetic) (map (m .means) xs) (length xs) i _ (c .loop-i .rest) _ _ _ _ (length-map xs (m .means)) pos (c .loop-i .kept .i)
-      (means-at (m .means) xs (i - 1) _ _ (omega arith) (c .index-point-i .is)) (f .at-one) (f .at-zero) (inv .0) (inv .1) (c .mul-product .ensures),
+          (means-at (m .means) xs (i - 1) _ _ (omega arith) (c .index-point-i .is)) (f .at-one) (f .at-zero) (inv .0) (inv .1) (c .mul-product .ensures),
       rest-more (length xs) i _ _ pos (c .loop-i .kept .i) (inv .1),
     )
 

@@ -1,0 +1,16 @@
+use lib.ListN.{length-map}
+use Rattle.multilinear.specs.Cells.{one-row-on}
+use Rattle.plain.proofs.Summing.{sum-begins, sum-more, multilinear-ends}
+use Rattle.plain.proofs.values.successor_value.Needs as need
+
+pub loop-c-holds : need.loop-c-holds
+loop-c-holds g c = sum-begins _ _ (c .zero-sum .ensures)
+
+pub loop-c-again : need.loop-c-again
+loop-c-again g c = sum-more _ (c .loop-c .c) _ _ _ (c .loop-c .inv) (c .successor-term .ensures) (c .add-sum .ensures)
+
+pub returns : need.returns
+unfolding one-row-on
+returns g c =
+    let m = g .L·Level in
+    multilinear-ends (m .arithmetic) _ _ _ (c .loop-c .c) _ (length-map (c .args .point .now) (m .means)) (c .pre .0) (c .loop-c .kept .c-end) (c .loop-c-test .left) (c .loop-c .inv)
