@@ -3,3 +3,4 @@ pub mod Entry
 pub mod Bits
 pub mod Summing
 pub mod Packing
+pub mod Prefixes

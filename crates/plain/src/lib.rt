@@ -3,5 +3,6 @@
 pub mod cells;
 mod columns;
 mod coordinates;
+pub mod opening;
 pub mod points;
 pub mod values;
