@@ -4,3 +4,5 @@ pub mod Bits
 pub mod Summing
 pub mod Packing
 pub mod Prefixes
+pub mod Set_coordinates
+pub mod Weights

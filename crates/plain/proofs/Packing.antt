@@ -4,7 +4,8 @@ use mathlib.Core.List.{List}
 use Prim.Native.Nat.{ℕ, zero, suc, _+_, _-_, _*_, _/_, _%_, _^_, _<_, _≤_}
 use native.Mathlib.Omega.{arith}
 use native.Mathlib.Numerals.{add-one}
-use native.Mathlib.Nat.{mod-eq-of-lt, add-comm}
+use native.Mathlib.Nat.{mod-eq-of-lt, add-comm, le-trans, mul-le-mul-left, mul-le-mul-right, mul-one}
+use lib.Pow.{pow-pos}
 use lib.Bits.{bitOr}
 use Rattle.std.proofs.shelf.Bits.{or-comm, or-shifted, shl-whole}
 use Rattle.level.specs.Element.{Element, width, cut}
@@ -40,3 +41,11 @@ packed-ends k bits w d v n x bs h wide below above e shown made =
     let digits-are = e ∙ ap (λ i. binary i (λ u. bits (w * d + u))) all ∙ ap (λ i. binary i (λ u. bits (w * i + u))) wide in
     made ∙ ap (from-sixteen k) shown ∙ from-digits k n h
     ∙ same _ _ (cut-is k n ∙ ap (λ m. m % 2 ^ width k) digits-are ∙ mod-eq-of-lt (binary-fits (width k) (λ u. bits (w * width k + u))))
+
+-- the packed elements before n more than s lie within 2^64 cells if those n more do
+pub cells-fit : (k s i n : ℕ) → i < n → (s + n) * width k ≤ 2 ^ 64 → (s + i + 1) * width k ≤ 2 ^ 64
+cells-fit k s i n h fits = le-trans (mul-le-mul-right (width k) (omega arith)) fits
+
+-- and there are at most 2^64 of them
+pub count-fits : (k n : ℕ) → n * width k ≤ 2 ^ 64 → n ≤ 2 ^ 64
+count-fits k n fits = le-trans (le-trans (omega (arith, mul-one n)) (mul-le-mul-left n (pow-pos k))) fits

@@ -22,7 +22,7 @@ pub(crate) fn coordinates<L: Level>(x: L) -> u128
 }
 
 // Coordinate u.
-pub(crate) fn coordinate(coordinates: u128, u: usize) -> u8
+fn coordinate(coordinates: u128, u: usize) -> u8
     requires { ⌜ u < 128 ⌝ }
     ensures { λ r. ⌜ r ≡ coordinates / 2 ^ u % 2 ⌝ }
 {
@@ -38,8 +38,16 @@ pub(crate) fn with_coordinate(coordinates: u128, v: usize, bit: u8) -> u128
 }
 
 // x where the bit is 1, else zero.
-pub(crate) fn at_bit<L: Level>(bit: u8, x: L) -> L
+fn at_bit<L: Level>(bit: u8, x: L) -> L
     ensures { λ r. ⌜ means r ≡ at-bit bit (means x) ⌝ }
 {
     if bit == 0 { L::zero() } else { x }
+}
+
+// x where coordinate u is set, else zero.
+pub(crate) fn at_coordinate<L: Level>(coordinates: u128, u: usize, x: L) -> L
+    requires { ⌜ u < 128 ⌝ }
+    ensures { λ r. ⌜ means r ≡ at-bit (coordinates / 2 ^ u % 2) (means x) ⌝ }
+{
+    at_bit(coordinate(coordinates, u), x)
 }

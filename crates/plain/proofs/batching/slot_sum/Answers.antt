@@ -1,0 +1,30 @@
+use Prim.Native.Nat.{_+_, _^_}
+use native.Mathlib.Omega.{arith}
+use lib.ListN.{length}
+use Rattle.std.proofs.shelf.Bits.{one-shl}
+use Rattle.plain.proofs.Packing.{cells-fit, count-fits}
+use Rattle.plain.proofs.Summing.{sum-begins, sum-more, cube-ends}
+use Rattle.plain.proofs.batching.slot_sum.Needs as need
+
+pub loop-i-holds : need.loop-i-holds
+loop-i-holds g c = sum-begins _ _ (c .zero-sum .ensures)
+
+pub add-slot-start : need.add-slot-start
+add-slot-start g c =
+    let l = length (c .args .slot .now) in
+    omega (arith, count-fits (g .L·Level .log) (c .args .slot-start + 2 ^ l) (c .pre .cells), one-shl l 64 (c .pre .short))
+
+pub slot-term-requires : need.slot-term-requires
+slot-term-requires g c κs =
+    let l = length (c .args .slot .now) in
+    record {
+      narrow = c .pre .narrow;
+      rows = c .pre .rows;
+      cells = cells-fit (g .L·Level .log) (c .args .slot-start) (c .loop-i .i) (2 ^ l) (omega (arith, one-shl l 64 (c .pre .short))) (c .pre .cells);
+    }
+
+pub loop-i-again : need.loop-i-again
+loop-i-again g c = sum-more _ (c .loop-i .i) _ _ _ (c .loop-i .inv) (c .slot-term .ensures) (c .add-sum .ensures)
+
+pub returns : need.returns
+returns g c = cube-ends _ _ (c .loop-i .i) _ (c .pre .short) (c .loop-i .kept .i-end) (c .loop-i-test .left) (c .loop-i .inv)
