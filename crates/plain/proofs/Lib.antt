@@ -6,3 +6,5 @@ pub mod Packing
 pub mod Prefixes
 pub mod Set_coordinates
 pub mod Weights
+pub mod Initial_sums
+pub mod Claimed

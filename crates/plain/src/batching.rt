@@ -8,8 +8,9 @@ ghost use Rattle.multilinear.specs.Sums.{sum, where-set};
 ghost use Rattle.multilinear.specs.Equality.{equality, multilinear};
 ghost use Rattle.multilinear.specs.Cells.{cell, packed};
 ghost use Rattle.ring_switch.specs.Claims.{starts, ends};
-ghost use Rattle.ring_switch.specs.Batching.{settled, weight};
+ghost use Rattle.ring_switch.specs.Batching.{settled, weight, closing-value};
 ghost use Rattle.ring_switch.specs.Batching_laws.{Rows-within};
+ghost use Rattle.plain.specs.Openings.{Initial-sum-of};
 ghost use Rattle.plain.specs.Steps.{steps};
 use crate::cells::packed_element;
 use crate::columns::ends_column;
@@ -85,7 +86,7 @@ fn slot_term<L: Level>(
     packed_element::<L>(bits, w).mul(weight(batching, slot, stepping, i))
 }
 
-// The sum over a slot of each packed element times its weight.
+// The sum over a slot of each packed element times its weight: the initial sum of the tensors of an opening with that slot.
 pub fn slot_sum<L: Level>(
     bits: &[u8],
     slot_start: usize,
@@ -97,7 +98,8 @@ pub fn slot_sum<L: Level>(
     requires rows { ⌜ Rows-within (steps means stepping) 63 ⌝ }
     requires short { ⌜ length (now slot) < 64 ⌝ }
     requires cells { ⌜ («slot_start» + 2 ^ length (now slot)) * width (L·Level .log) ≤ 2 ^ 64 ⌝ }
-    ensures { λ r. ⌜ means r ≡ sum (2 ^ length (now (slot .entry))) (λ i. arithmetic .times (packed (L·Level .log) (cell (now (bits .entry))) («slot_start» + i)) (weight arithmetic (equality arithmetic (map means (now (batching .entry)))) (map means (now (slot .entry))) (steps means stepping) i)) ⌝ }
+    ensures weighted { λ r. ⌜ means r ≡ sum (2 ^ length (now (slot .entry))) (λ i. arithmetic .times (packed (L·Level .log) (cell (now (bits .entry))) («slot_start» + i)) (weight arithmetic (equality arithmetic (map means (now (batching .entry)))) (map means (now (slot .entry))) (steps means stepping) i)) ⌝ }
+    ensures initial { λ r. ⌜ Initial-sum-of arithmetic (equality arithmetic (map means (now (batching .entry)))) (cell (now (bits .entry))) (map means (now (slot .entry))) «slot_start» (steps means stepping) (means r) ⌝ }
 {
     let mut sum = L::zero();
     for i in 0..1 << slot.len() {
@@ -131,7 +133,8 @@ pub fn closing_value<L: Level>(
     requires narrow { ⌜ L·Level .log ≤ 7 ⌝ }
     requires rows { ⌜ Rows-within (steps means stepping) 63 ⌝ }
     requires short { ⌜ length (now z) < 64 ⌝ }
-    ensures { λ r. ⌜ means r ≡ multilinear arithmetic (weight arithmetic (equality arithmetic (map means (now (batching .entry)))) (map means (now (slot .entry))) (steps means stepping)) (map means (now (z .entry))) ⌝ }
+    ensures value { λ r. ⌜ means r ≡ multilinear arithmetic (weight arithmetic (equality arithmetic (map means (now (batching .entry)))) (map means (now (slot .entry))) (steps means stepping)) (map means (now (z .entry))) ⌝ }
+    ensures closing { λ r. ⌜ (Rows-within (steps means stepping) (length (now (slot .entry))) → length (now (z .entry)) ≡ length (now (slot .entry)) → means r ≡ closing-value arithmetic (equality arithmetic (map means (now (batching .entry)))) (map means (now (slot .entry))) (steps means stepping) (map means (now (z .entry)))) ⌝ }
 {
     let mut sum = L::zero();
     for i in 0..1 << z.len() {

@@ -57,7 +57,7 @@ fn extended(address: usize, bit: usize) -> usize
     requires { ⌜ 2 * address + bit < 2 ^ 64 ⌝ }
     ensures { λ r. ⌜ r ≡ 2 * address + bit ⌝ }
 {
-    2 * address + bit
+    address * 2 + bit
 }
 
 // The longest run of leading coordinates that are zero or one: how many there are, and the address that they spell, most
