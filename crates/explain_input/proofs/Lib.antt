@@ -1,3 +1,4 @@
 mod Words
 mod Splitting
 mod Collecting
+mod Refusing

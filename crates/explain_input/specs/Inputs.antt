@@ -1,6 +1,7 @@
 -- What an input says, and why one is refused.
 use mathlib.Core.Path.{_≡_}
 use mathlib.Core.Bool.{Bool, true, false}
+use mathlib.Core.Logic.{_≢_}
 use mathlib.Core.List.{List, [], _∷_, map}
 use Prim.Native.Nat.{ℕ, _<_}
 use lib.ListN.{length}
@@ -85,3 +86,7 @@ Bad-input text fault.Letter = (t : List ℕ) × (texts Level (lines text) ≡ t 
 Bad-input text fault.Number = (t : List ℕ) × (texts View (lines text) ≡ t ∷ []) × No-number t
 Bad-input text fault.NoBatching = (texts Batching (lines text) ≡ []) × (0 < length (texts Challenge (lines text)))
 Bad-input text fault.Memory = Unit {0}
+
+-- a refusal, other than for want of memory, is of an input that says nothing
+abbrev pub Refused-say-nothing : Type 0
+Refused-say-nothing = (text : List ℕ) (f : InputFault) (parts : Parts) → f ≢ fault.Memory → Bad-input text f → Says text parts → ⊥

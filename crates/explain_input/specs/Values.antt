@@ -8,10 +8,10 @@ use Rattle.std.specs.Reads.{Numeral, value}
 
 -- decimal digits that write a number below 2^64
 abbrev pub Number : List ℕ → ℕ → Type 0
-Number text n = Numeral 10 text × (n ≡ value 10 text)
+Number text n = Numeral 10 text × (n ≡ value 10 text) × (n < 2 ^ 64)
 
 abbrev pub No-number : List ℕ → Type 0
-No-number text = (n : ℕ) → n < 2 ^ 64 → Number text n → ⊥
+No-number text = (n : ℕ) → Number text n → ⊥
 
 -- b, w, d, q or a
 abbrev pub level-letter : ℕ → Bool

@@ -1,6 +1,6 @@
 ghost use mathlib.Core.Path.{_≡_};
 ghost use mathlib.Core.List.{[], _∷_};
-ghost use Rattle.explain_input.specs.Inputs.{parts-of, Says, Bad-input, Optional, needed, single};
+ghost use Rattle.explain_input.specs.Inputs.{parts-of, Says, Bad-input, Optional, needed, single, Refused-say-nothing};
 ghost use Rattle.explain_input.specs.Keys.{lines, texts};
 ghost use Rattle.explain_input.specs.Values.{Number, Letter};
 ghost use Rattle.explain_input.specs.declared.key.Key.the-variants.{Level, View};
@@ -108,4 +108,11 @@ pub fn read_input<'a>(heap: Global, text: &'a [u8]) -> Result<Input<'a>, InputFa
         challenge,
         closings,
     })
+}
+
+// An input that is refused, other than for want of memory, says nothing.
+pub fn refusals_stand() -> u8
+    ensures { λ _. ⌜ Refused-say-nothing ⌝ }
+{
+    0
 }
