@@ -2,3 +2,4 @@ mod Words
 mod Splitting
 mod Collecting
 mod Refusing
+mod Hexadecimal
