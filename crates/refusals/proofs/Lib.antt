@@ -1,0 +1,2 @@
+mod Powers
+mod Examples
