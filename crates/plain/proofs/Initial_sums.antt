@@ -13,14 +13,14 @@ use Rattle.level.specs.Laws.{Arithmetic, Laws}
 use Rattle.multilinear.specs.Sums.{sum}
 use Rattle.multilinear.specs.Equality.{Point, equality}
 use Rattle.multilinear.specs.Cells.{packed}
-use Rattle.ring_switch.specs.Opening.{View, kept, high, rest, slot-start}
-use Rattle.ring_switch.specs.Batching.{Stepping, weight, initial-sum, successor-rows}
+use Rattle.ring_switch.specs.Opening.{View, kept, rest, slot-start}
+use Rattle.ring_switch.specs.Batching.{Stepping, weight, initial-sum}
 use Rattle.ring_switch.specs.Claims.{tensor, carry, last}
 use Rattle.ring_switch.specs.Claim_laws.{opened, opened-carry, opened-last}
 use Rattle.ring_switch.specs.Slots.{in-slot, slot-count}
 use Rattle.ring_switch.proofs.Slot_tensors.{slots-stand, stepped-slots-stand}
 use Rattle.ring_switch.proofs.Initial.{initial-sum-is-weighted}
-use Rattle.plain.specs.Openings.{named, stepped-rows, Slot-of, Initial-sum-of}
+use Rattle.plain.specs.Openings.{named, stepped-rows, Initial-sum-of}
 
 -- where row variables are kept, the view names more than an element absorbs
 kept-view : (k q r : ℕ) → Some r ≡ kept k (Some q) → (k < q) × (r ≡ q - k)

@@ -1,16 +1,14 @@
 -- The leading zeros and ones of a point, coordinate by coordinate from the first.
 use mathlib.Core.Path.{_≡_, refl, sym, ap, ap₂, _∙_}
-use mathlib.Core.Bool.{true, false, cond}
-use mathlib.Core.List.{List, [], _∷_, map}
-use mathlib.Core.Logic.{_⊎_, ⊎-elim}
-use Prim.Native.Nat.{ℕ, zero, suc, _+_, _-_, _*_, _^_, _<_, _≤_, min}
+use mathlib.Core.Bool.{false, cond}
+use mathlib.Core.List.{List, map}
+use Prim.Native.Nat.{ℕ, zero, suc, _+_, _-_, _*_, _^_, _<_, _≤_}
 use native.Mathlib.Omega.{arith}
 use native.Mathlib.Numerals.{add-one}
 use native.Mathlib.Nat.{pow-suc, mul-assoc, add-mul, mul-comm, lt-of-lt-of-le, le-trans, mul-le-mul-right}
 use lib.Dec.{eqb}
 use lib.Pow.{pow-mono, pow-add}
 use lib.ListN.{length, take, drop, getD, length-map}
-use Rattle.std.specs.declared.option.Option.{Option}
 use Rattle.std.specs.declared.option.Option.the-variants.{Some, None}
 use Rattle.std.proofs.shelf.Bits.{shl-below}
 use Rattle.std.proofs.shelf.Lists.{drop-more, drop-all, drop-take, take-take, take-map, drop-map, length-take-le}

@@ -1,8 +1,4 @@
-use mathlib.Core.Path.{sym, ap, _∙_}
-use mathlib.Core.List.{map}
-use Rattle.multilinear.specs.Equality.{equality}
 use Rattle.ring_switch.specs.Batching.{weight}
-use Rattle.plain.specs.Steps.{steps}
 use Rattle.plain.proofs.Weights.{weight-stepped}
 use Rattle.plain.proofs.batching.weight.Needs as need
 

@@ -2,7 +2,7 @@ use mathlib.Core.Path.{_≡_, sym, ap, _∙_}
 use mathlib.Core.List.{map}
 use Prim.Native.Nat.{_+_, _-_, _<_}
 use native.Mathlib.Omega.{arith}
-use lib.ListN.{length, take, drop, length-take, length-drop, length-map}
+use lib.ListN.{length, take, drop, length-take, length-map}
 use Rattle.ring_switch.specs.Opening.{rest}
 use Rattle.plain.proofs.Prefixes.{rest-is-part, slot-starts, slot-cells, address-fits}
 use Rattle.plain.proofs.opening.slot.Needs as need
