@@ -2,4 +2,3 @@ pub mod Coordinates
 pub mod Selected
 pub mod TowerProducts
 pub mod PolynomialProducts
-pub mod Examples

@@ -1,6 +1,6 @@
 -- The operations on bits of the polynomial byte are products of polynomials.
-use mathlib.Core.Path.{_≡_, refl, sym, ap, ap₂, _∙_}
-use Prim.Native.Nat.{ℕ, zero, suc, _/_, _%_, _^_, _<_, _≤_}
+use mathlib.Core.Path.{_≡_, refl, sym, ap, _∙_}
+use Prim.Native.Nat.{ℕ, zero, suc, _^_, _<_, _≤_}
 use native.Mathlib.Omega.{arith}
 use lib.ListN.{getD}
 use Rattle.level.specs.Element.{Element, cut}
@@ -18,9 +18,13 @@ pub polynomial-byte : Polynomial-byte
 unfolding polynomial reduced divided product rows cut
 polynomial-byte = record { by-x = equal-below 256 _ _ tt }
 
-one-is : polynomial .unit ≡ cut 3 1
+pub one-is : cut 3 0x01 ≡ polynomial .unit
 unfolding polynomial
 one-is = refl
+
+pub generator-is : cut 3 0x01 ≡ polynomial .root
+unfolding polynomial
+generator-is = refl
 
 power-times-x : (i : ℕ) → i < 7 → polynomial .times (cut 3 (2 ^ i)) (cut 3 0x02) ≡ cut 3 (2 ^ suc i)
 unfolding polynomial reduced divided product rows cut
@@ -38,5 +42,4 @@ pub polynomial-product : (a b : ℕ) → a < 2 ^ 8 → b < 2 ^ 8 → cut 3 (sele
 polynomial-product a b ha hb = cut-of _ _ (selected-times polynomial-laws b 8 (multiples 8 b) (λ i l. multiple-is 8 b hb i l (omega arith)) a ha)
 
 pub generator-times : (x : Element 3) → x ≡ polynomial .times (polynomial .root) x
-unfolding polynomial
-generator-times x = sym (one-times polynomial-laws one-is x)
+generator-times x = sym (ap (λ g. polynomial .times g x) (sym generator-is) ∙ one-times polynomial-laws one-is x)

@@ -4,8 +4,8 @@ use Prim.Native.Nat.{ℕ, zero, suc, _/_, _%_, _^_, _<_}
 use native.Mathlib.Omega.{arith}
 use lib.Bits.{bitXor}
 use lib.ListN.{getD}
-use Rattle.level.specs.Element.{Element, cut, plus, zeros}
-use Rattle.level.proofs.Elements.{same, cut-number}
+use Rattle.level.specs.Element.{cut, plus, zeros}
+use Rattle.level.proofs.Elements.{same, cut-number, cut-xor}
 use Rattle.doubling.specs.Doubled.{low, high, join, doubled, tower}
 use Rattle.level.proofs.Ring.{plus-times}
 use Rattle.doubling.proofs.Rings.{tower-laws}
@@ -13,7 +13,7 @@ use Rattle.polynomial.proofs.Tests.{equal-below}
 use Rattle.byte_levels.specs.Rows.{selected}
 use Rattle.byte_levels.specs.TowerSteps.{times-x0, times-x1, times-x2, low-multiples}
 use Rattle.byte_levels.specs.Bytes.{Tower-byte}
-use Rattle.byte_levels.proofs.Coordinates.{cut-plus, cut-of, byte-number, one-times}
+use Rattle.byte_levels.proofs.Coordinates.{cut-of, byte-number, one-times}
 use Rattle.byte_levels.proofs.Selected.{selected-mod, selected-times}
 
 pub tower-byte : Tower-byte
@@ -26,8 +26,11 @@ tower-byte = record {
   by-x2 = equal-below 256 _ _ tt;
 }
 
-one-is : tower 3 .unit ≡ cut 3 0x01
-one-is = sym (cut-of 0x01 (tower 3 .unit) (sym (tower-byte .one)))
+pub one-is : cut 3 0x01 ≡ tower 3 .unit
+one-is = cut-of 0x01 (tower 3 .unit) (sym (tower-byte .one))
+
+pub generator-is : cut 3 0x10 ≡ tower 3 .root
+generator-is = cut-of 0x10 (tower 3 .root) (sym (tower-byte .generator))
 
 x0-x1 : tower 3 .times (cut 3 0x02) (cut 3 0x04) ≡ cut 3 0x08
 unfolding tower doubled low high join cut plus zeros
@@ -50,7 +53,7 @@ multiple-is b h (suc (suc (suc zero))) l =
 multiple-is b h (suc (suc (suc (suc i)))) l = absurd (omega arith)
 
 -- four bits times b
-pub low-product : (a b : ℕ) → a < 2 ^ 4 → b < 2 ^ 8 → cut 3 (selected a (low-multiples b)) ≡ tower 3 .times (cut 3 a) (cut 3 b)
+low-product : (a b : ℕ) → a < 2 ^ 4 → b < 2 ^ 8 → cut 3 (selected a (low-multiples b)) ≡ tower 3 .times (cut 3 a) (cut 3 b)
 low-product a b ha hb = cut-of _ _ (selected-times (tower-laws 3) b 4 (low-multiples b) (multiple-is b hb) a ha)
 
 pub tower-product : (a b l h r : ℕ) → a < 2 ^ 8 → b < 2 ^ 8 → h < 2 ^ 8 → l ≡ selected a (low-multiples b) → h ≡ selected (a / 2 ^ 4) (low-multiples b) → r ≡ times-x2 h → cut 3 (bitXor l r) ≡ tower 3 .times (cut 3 a) (cut 3 b)
@@ -60,8 +63,7 @@ tower-product a b l h r ha hb hh el eh er =
     ap (cut 3) (el ∙ sym (selected-mod (low-multiples b) a)) ∙ low-product (a % 2 ^ 4) b (omega arith) hb in
     let high : cut 3 r ≡ tower 3 .times (cut 3 0x10) (tower 3 .times (cut 3 (a / 2 ^ 4)) (cut 3 b)) =
     cut-of r _ (er ∙ tower-byte .by-x2 h hh) ∙ ap (tower 3 .times (cut 3 0x10)) (ap (cut 3) eh ∙ low-product (a / 2 ^ 4) b (omega arith) hb) in
-    cut-plus 3 l r ∙ ap₂ plus low (high ∙ sym (laws .times-assoc _ _ _)) ∙ sym (plus-times laws _ _ _) ∙ ap (λ x. tower 3 .times x (cut 3 b)) (sym (halves a ha))
+    cut-xor 3 l r ∙ ap₂ plus low (high ∙ sym (laws .times-assoc _ _ _)) ∙ sym (plus-times laws _ _ _) ∙ ap (λ x. tower 3 .times x (cut 3 b)) (sym (halves a ha))
 
 pub generator-times : (b r : ℕ) → b < 2 ^ 8 → r ≡ times-x2 b → cut 3 r ≡ tower 3 .times (tower 3 .root) (cut 3 b)
-generator-times b r h e =
-    cut-of r _ (e ∙ tower-byte .by-x2 b h) ∙ ap (λ x. tower 3 .times x (cut 3 b)) (cut-of 0x10 (tower 3 .root) (sym (tower-byte .generator)))
+generator-times b r h e = cut-of r _ (e ∙ tower-byte .by-x2 b h) ∙ ap (λ x. tower 3 .times x (cut 3 b)) generator-is

@@ -2,4 +2,3 @@ pub mod Rows
 pub mod TowerSteps
 pub mod PolynomialSteps
 pub mod Bytes
-pub mod Worked

@@ -1,5 +1,4 @@
 ghost use Rattle.byte_levels.specs.Bytes.{Tower-byte, Polynomial-byte};
-ghost use Rattle.byte_levels.specs.Worked.{Worked};
 
 // Theorems on the arithmetic of the two bytes, each the contract of a function.
 
@@ -13,13 +12,6 @@ pub fn tower_stands() -> u8
 // The product by X written on bits is that of polynomials.
 pub fn polynomial_stands() -> u8
     ensures { λ _. ⌜ Polynomial-byte ⌝ }
-{
-    0
-}
-
-// Worked products.
-pub fn worked_stands() -> u8
-    ensures { λ _. ⌜ Worked ⌝ }
 {
     0
 }

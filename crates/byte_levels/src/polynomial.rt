@@ -2,6 +2,10 @@ ghost use mathlib.Core.Path.{_≡_};
 ghost use Rattle.level.specs.Element.{cut};
 ghost use Rattle.polynomial.specs.Polynomial.{polynomial};
 ghost use Rattle.byte_levels.specs.PolynomialSteps.{xtime as by-x, multiples as multiples-of};
+use crate::bits::equal;
+use crate::bits::from_sixteen;
+use crate::bits::sum;
+use crate::bits::to_sixteen;
 use crate::combine::combine;
 use level::level::Level;
 
@@ -11,7 +15,7 @@ pub struct PolynomialByte {
     pub value: u8,
 }
 
-// The product by X.
+// The product by X, as FIPS 197 names it.
 fn xtime(b: u8) -> u8
     ensures { λ r. ⌜ r ≡ by-x b ⌝ }
 {
@@ -31,6 +35,7 @@ fn multiples(b: u8) -> [u8; 8]
     [b, b1, b2, b3, b4, b5, b6, xtime(b6)]
 }
 
+// a·b is the sum of X^i·b over the set bits i of a.
 fn product(a: u8, b: u8) -> u8
     ensures { λ r. ⌜ cut 3 r ≡ polynomial .times (cut 3 a) (cut 3 b) ⌝ }
 {
@@ -57,12 +62,12 @@ pub impl Level for PolynomialByte as PolynomialByteLevel {
     }
 
     fn generator() -> Self {
-        PolynomialByte { value: 1 }
+        PolynomialByte { value: 0x01 }
     }
 
     fn add(self, other: Self) -> Self {
         PolynomialByte {
-            value: self.value ^ other.value,
+            value: sum(self.value, other.value),
         }
     }
 
@@ -77,14 +82,16 @@ pub impl Level for PolynomialByte as PolynomialByteLevel {
     }
 
     fn equals(self, other: Self) -> bool {
-        self.value == other.value
+        equal(self.value, other.value)
     }
 
     fn to_bytes(self) -> [u8; 16] {
-        [self.value, 0, 0, 0, 0, 0, 0, 0, 0, 0, 0, 0, 0, 0, 0, 0]
+        to_sixteen(self.value)
     }
 
     fn from_bytes(bytes: [u8; 16]) -> Self {
-        PolynomialByte { value: bytes[0] }
+        PolynomialByte {
+            value: from_sixteen(bytes),
+        }
     }
 }

@@ -1,8 +1,11 @@
 ghost use mathlib.Core.Path.{_≡_};
-ghost use lib.Bits.{bitXor};
 ghost use Rattle.level.specs.Element.{cut};
 ghost use Rattle.doubling.specs.Doubled.{tower};
 ghost use Rattle.byte_levels.specs.TowerSteps.{times-x0, times-x1, times-x2, low-multiples};
+use crate::bits::equal;
+use crate::bits::from_sixteen;
+use crate::bits::sum;
+use crate::bits::to_sixteen;
 use crate::combine::combine;
 use level::level::Level;
 
@@ -32,7 +35,7 @@ fn times_x2(b: u8) -> u8
     (b >> 4) ^ (b << 4) ^ times_x1(b & 0xf0)
 }
 
-// The products of b by 1, x0, x1 and x0·x1.
+// The products of b by 1, x0, x1 and x0·x1, the elements of the low four bits.
 fn low_multiples(b: u8) -> [u8; 4]
     ensures { λ r. ⌜ r ≡ low-multiples b ⌝ }
 {
@@ -73,7 +76,7 @@ pub impl Level for TowerByte as TowerByteLevel {
 
     fn add(self, other: Self) -> Self {
         TowerByte {
-            value: self.value ^ other.value,
+            value: sum(self.value, other.value),
         }
     }
 
@@ -90,14 +93,16 @@ pub impl Level for TowerByte as TowerByteLevel {
     }
 
     fn equals(self, other: Self) -> bool {
-        self.value == other.value
+        equal(self.value, other.value)
     }
 
     fn to_bytes(self) -> [u8; 16] {
-        [self.value, 0, 0, 0, 0, 0, 0, 0, 0, 0, 0, 0, 0, 0, 0, 0]
+        to_sixteen(self.value)
     }
 
     fn from_bytes(bytes: [u8; 16]) -> Self {
-        TowerByte { value: bytes[0] }
+        TowerByte {
+            value: from_sixteen(bytes),
+        }
     }
 }

@@ -1,15 +1,15 @@
 -- The sixteen bytes of a joined element, and a joined element from sixteen bytes, by shifts of 128 bits.
-use mathlib.Core.Path.{_≡_, sym, ap, _∙_}
+use mathlib.Core.Path.{_≡_, sym, ap, ap₂, _∙_}
 use mathlib.Core.List.{List}
 use Prim.Native.Nat.{ℕ, suc, _+_, _*_, _/_, _%_, _^_, _<_, _≤_}
 use native.Mathlib.Omega.{arith}
-use native.Mathlib.Nat.{mod-eq-of-lt, div-eq-of-lt, zero-mod}
+use native.Mathlib.Nat.{mod-eq-of-lt, div-eq-of-lt}
 use lib.Bits.{bitOr, or-shifted-r}
 use lib.Pow.{pow-mono, pow-lt, mod-pow-add, shl-exact}
 use lib.Pow.{low as mod-low}
 use Rattle.level.specs.Element.{Element, width, cut, zeros}
 use Rattle.level.specs.Bytes.{digits, le-number, sixteen, from-sixteen}
-use Rattle.level.proofs.Elements.{same}
+use Rattle.level.proofs.Elements.{same, cut-zero}
 use Rattle.level.proofs.Digits.{digits-mod}
 use Rattle.level.proofs.Words.{fewer-bits, from-digits}
 use Rattle.doubling.specs.Halves.{width-suc}
@@ -41,17 +41,19 @@ unfolding join cut
 join-cut k n = same _ _ (sym (ap (λ w. n % 2 ^ w) (width-suc k) ∙ mod-pow-add n (width k) (width k)))
 
 -- where the low half takes all sixteen bytes, the high half is zero
-pub from-wide : (k : ℕ) (bs : List ℕ) → 7 ≤ k → le-number bs < 2 ^ 128 → join (from-sixteen k bs) (zeros k) ≡ from-sixteen (suc k) bs
-unfolding from-sixteen zeros cut
-from-wide k bs h l =
+pub from-wide : {k : ℕ} (bs : List ℕ) {x y : Element k} → 7 ≤ k → le-number bs < 2 ^ 128 → x ≡ from-sixteen k bs → y ≡ zeros k
+    → join x y ≡ from-sixteen (suc k) bs
+unfolding from-sixteen
+from-wide {k} bs h l x y =
     let wide : 2 ^ 128 ≤ 2 ^ width k = pow-mono (pow-mono h) in
     let none : le-number bs / 2 ^ width k ≡ 0 = div-eq-of-lt (omega arith) in
-    ap (join (from-sixteen k bs)) (same _ _ (sym (ap (λ n. n % 2 ^ width k) none ∙ zero-mod (2 ^ width k)))) ∙ join-cut k (le-number bs)
+    let above : cut k (le-number bs / 2 ^ width k) ≡ zeros k = ap (cut k) none ∙ cut-zero k in
+    ap₂ join x (y ∙ sym above) ∙ join-cut k (le-number bs)
 
--- the high half from the bytes of the number, moved down
-pub from-narrow : (k : ℕ) (bs ds : List ℕ) {n w r : ℕ} → k < 7 → n ≡ le-number bs → w ≡ width k → r ≡ n / 2 ^ w → ds ≡ digits 16 r
-    → join (from-sixteen k bs) (from-sixteen k ds) ≡ from-sixteen (suc k) bs
+-- otherwise the high half is in the bytes of the number, moved down by the width
+pub from-narrow : {k : ℕ} (bs ds : List ℕ) {n w r : ℕ} {x y : Element k} → k < 7 → n ≡ le-number bs → w ≡ width k → r ≡ n / 2 ^ w
+    → ds ≡ digits 16 r → x ≡ from-sixteen k bs → y ≡ from-sixteen k ds → join x y ≡ from-sixteen (suc k) bs
 unfolding from-sixteen
-from-narrow k bs ds h n w e d =
-    let above : from-sixteen k ds ≡ cut k (le-number bs / 2 ^ width k) = ap (from-sixteen k) d ∙ from-digits k _ (omega arith) ∙ ap (cut k) (e ∙ rw (n, w)) in
-    ap (join (from-sixteen k bs)) above ∙ join-cut k (le-number bs)
+from-narrow {k} bs ds h n w r d x y =
+    let above : from-sixteen k ds ≡ cut k (le-number bs / 2 ^ width k) = ap (from-sixteen k) d ∙ from-digits k _ (omega arith) ∙ ap (cut k) (r ∙ rw (n, w)) in
+    ap₂ join x (y ∙ above) ∙ join-cut k (le-number bs)

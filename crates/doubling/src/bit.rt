@@ -34,7 +34,7 @@ pub impl Level for Bit as BitLevel {
     }
 
     fn generator() -> Self {
-        Bit { set: true }
+        Bit::one()
     }
 
     fn add(self, other: Self) -> Self {

@@ -39,36 +39,44 @@ octets-take (suc n) (b ∷ bs) o zero = o 0
 octets-take (suc n) (b ∷ bs) o (suc i) = octets-take n bs (λ j. o (suc j)) i
 
 -- one more byte of the text
-pub parsed-more : (text bs : List ℕ) (j b : ℕ) → 2 * j + 1 < length text → j < 16 → b < 256 → Parsed j text bs → Pair text j b → Parsed (j + 1) text (set bs j b)
+pub hex-next : (text bs : List ℕ) (j b : ℕ) → 2 * j + 1 < length text → take (2 * j) text ≡ hex bs → Pair text j b → take (2 * (j + 1)) text ≡ hex (bs ++ (b ∷ []))
 unfolding hex
+hex-next text bs j b h e q =
+    let next : 2 * (j + 1) ≡ 2 * j + 2 = omega arith in
+    ap (λ n. take n text) next ∙ take-two text (2 * j) h
+    ∙ ap₂ (λ (t u : List ℕ). t ++ u) e (ap₂ (λ (x y : ℕ). x ∷ y ∷ []) (q .high) (q .low))
+    ∙ sym (hex-append bs (b ∷ []))
+
+pub parsed-more : (text bs : List ℕ) (j b : ℕ) → 2 * j + 1 < length text → j < 16 → b < 256 → Parsed j text bs → Pair text j b → Parsed (j + 1) text (set bs j b)
 parsed-more text bs j b h l small p q =
     let inside : j < length bs = omega (arith, p .length-is) in
-    let next : 2 * (j + 1) ≡ 2 * j + 2 = omega arith in
     let rest : (16 - j) - 1 ≡ 16 - (j + 1) = omega arith in
     let shorter : j < j + 1 = omega arith in
     record {
       length-is = length-set bs j b ∙ p .length-is;
       octets = octets-set bs j b (p .octets) small;
-      text-is = ap (λ n. take n text) next ∙ take-two text (2 * j) h
-          ∙ ap₂ (λ (t u : List ℕ). t ++ u) (p .text-is) (ap₂ (λ (x y : ℕ). x ∷ y ∷ []) (q .high) (q .low))
-          ∙ sym (ap hex (take-more-set bs j b inside) ∙ hex-append (take j bs) (b ∷ []));
+      text-is = hex-next text (take j bs) j b h (p .text-is) q ∙ sym (ap hex (take-more-set bs j b inside));
       padded = drop-set-lt (j + 1) bs j b shorter ∙ sym (drop-drop 1 j bs) ∙ ap (drop 1) (p .padded) ∙ drop-replicate 1 (16 - j) 0 ∙ ap (λ n. replicate n 0) rest;
     }
 
 -- the first character that is no digit, where the bytes before it were read
-pub broken : (text bs : List ℕ) (j at : ℕ) → Parsed j text bs → 2 * j + 1 < length text → j < 16 → at < 2 * j + 2 → 2 * j ≤ at
+pub broken-at : (text bs : List ℕ) (j at : ℕ) → length bs ≡ j → Octets bs → take (2 * j) text ≡ hex bs → at < 2 * j + 2 → 2 * j ≤ at
     → No-digit (getD text at 0) → (2 * j < at → Is-digit (getD text (2 * j) 0)) → Broken text at
-broken text bs j at p h l below above none first =
+broken-at text bs j at len octets text-is below above none first =
     record { no-digit = none; before = λ i hi. place i hi (decLt i (2 * j)) }
   where
     place : (i : ℕ) → i < at → Dec (i < 2 * j) → Is-digit (getD text i 0)
     place i hi (yes early) =
-        let len : length (take j bs) ≡ j = length-take-le j bs (omega (arith, p .length-is)) in
-        let e : getD (hex (take j bs)) i 0 ≡ getD text i 0 = sym (ap (λ t. getD t i 0) (p .text-is)) ∙ getD-take (2 * j) text i 0 early in
-        subst Is-digit e (hex-digits (take j bs) (octets-take j bs (p .octets)) i (omega arith))
+        let e : getD (hex bs) i 0 ≡ getD text i 0 = sym (ap (λ t. getD t i 0) text-is) ∙ getD-take (2 * j) text i 0 early in
+        subst Is-digit e (hex-digits bs octets i (omega arith))
     place i hi (no late) =
         let e : 2 * j ≡ i = omega arith in
         subst (λ (n : ℕ). Is-digit (getD text n 0)) e (first (omega arith))
+
+pub broken : (text bs : List ℕ) (j at : ℕ) → Parsed j text bs → j < 16 → at < 2 * j + 2 → 2 * j ≤ at
+    → No-digit (getD text at 0) → (2 * j < at → Is-digit (getD text (2 * j) 0)) → Broken text at
+broken text bs j at p l =
+    broken-at text (take j bs) j at (length-take-le j bs (omega (arith, p .length-is))) (octets-take j bs (p .octets)) (p .text-is)
 
 le-zeroes : (n : ℕ) → le-number (replicate n 0) ≡ 0
 unfolding le-number

@@ -45,7 +45,7 @@ pub fn element_text<L: Level>(heap: Global, x: L) -> Result<String, AllocError>
 }
 
 // Byte `j` of a text, or the place of the first of its two characters that is no digit.
-fn parse_byte(text: &[u8], j: usize) -> Result<u8, usize>
+pub fn parse_byte(text: &[u8], j: usize) -> Result<u8, usize>
     requires { ⌜ 2 * j + 1 < length (now text) ⌝ }
     ensures { λ r. ⌜ Cases r (Pair (now (text .entry)) j) (λ at. (at < 2 * j + 2) × (2 * j ≤ at) × No-digit (getD (now (text .entry)) at 0) × (2 * j < at → Is-digit (getD (now (text .entry)) (2 * j) 0))) ⌝ }
 {

@@ -2,8 +2,8 @@
 use mathlib.Core.Path.{_≡_, refl, sym, ap, subst, _∙_}
 use Prim.Native.Nat.{ℕ, _^_, _%_, _<_}
 use native.Mathlib.Bridge.{le-prop}
-use native.Mathlib.Nat.{mod-eq-of-lt}
-use lib.Bits.{bitXor, xor-assoc, xor-comm, xor-zero-r, xor-zero-l, xor-self}
+use native.Mathlib.Nat.{mod-eq-of-lt, zero-mod}
+use lib.Bits.{bitXor, xor-assoc, xor-comm, xor-zero-r, xor-zero-l, xor-self, xor-mod}
 use Rattle.level.specs.Element.{Element, width, cut, plus, zeros}
 
 -- an element is its number
@@ -27,6 +27,21 @@ plus-is x y = refl
 pub cut-number : {k : ℕ} (x : Element k) → cut k (x .number) ≡ x
 unfolding cut
 cut-number {k} x = same _ _ (mod-eq-of-lt (x .fits))
+
+pub cut-zero : (k : ℕ) → cut k 0 ≡ zeros k
+unfolding cut zeros
+cut-zero k = same _ _ (zero-mod (2 ^ width k))
+
+-- a number that has no bits past the width is that of its element
+pub cut-small : (k n : ℕ) → n < 2 ^ width k → cut k n .number ≡ n
+cut-small k n h = cut-is k n ∙ mod-eq-of-lt h
+
+pub cut-same : (k n m : ℕ) → n < 2 ^ width k → m < 2 ^ width k → cut k n ≡ cut k m → n ≡ m
+cut-same k n m hn hm e = sym (cut-small k n hn) ∙ ap (λ x. x .number) e ∙ cut-small k m hm
+
+pub cut-xor : (k n m : ℕ) → cut k (bitXor n m) ≡ plus (cut k n) (cut k m)
+unfolding cut plus
+cut-xor k n m = same _ _ (xor-mod n m (width k))
 
 pub plus-assoc : {k : ℕ} (x y z : Element k) → plus (plus x y) z ≡ plus x (plus y z)
 unfolding plus

@@ -9,7 +9,7 @@ use lib.Pow.{pow-mono, mod-mod-pow}
 use Rattle.std.proofs.shelf.Lists.{drop-all}
 use Rattle.level.specs.Element.{Element, width, cut}
 use Rattle.level.specs.Bytes.{digits, le-number, sixteen, from-sixteen}
-use Rattle.level.proofs.Elements.{same}
+use Rattle.level.proofs.Elements.{same, cut-number}
 use Rattle.level.proofs.Digits.{le-digits}
 
 -- the sixteen bytes of a number
@@ -74,3 +74,8 @@ pub from-digits : (k n : ℕ) → k ≤ 7 → from-sixteen k (digits 16 n) ≡ c
 unfolding from-sixteen cut
 from-digits k n h =
     same _ _ (ap (λ m. m % 2 ^ width k) (le-digits 16 n) ∙ fewer-bits (n % 2 ^ 128) n 128 (width k) (pow-mono h) (mod-mod n (2 ^ 128)))
+
+-- an element of at most 128 coordinates is what its sixteen bytes make
+pub from-shown : {k : ℕ} (x : Element k) → k ≤ 7 → from-sixteen k (sixteen x) ≡ x
+unfolding from-sixteen
+from-shown {k} x h = ap (cut k) (le-sixteen x h) ∙ cut-number x

@@ -1,18 +1,19 @@
 -- Entries of equality tables: their start value, the digits that they look at, and their factors.
 use mathlib.Core.Path.{_≡_, refl, sym, ap, ap₂, _∙_}
 use mathlib.Core.List.{[], _∷_, _++_}
-use Prim.Native.Nat.{ℕ, zero, suc, _+_, _-_, _*_, _/_, _%_, _^_, _<_}
+use Prim.Native.Nat.{ℕ, suc, _+_, _-_, _*_, _/_, _%_, _^_, _<_}
 use native.Mathlib.Omega.{arith}
 use native.Mathlib.Nat.{add-comm}
 use lib.Arith.{mul-pred, digits-div, digits-mod}
-use lib.ListN.{length, length-append, take-append-drop}
+use lib.ListN.{length, length-append, length-drop, take-append-drop}
+use lib.Seq.{length-take-le}
 use lib.Pow.{pow-pos, ones-lt, shr-shr, mod-mod-pow}
 use Rattle.level.specs.Element.{Element}
 use Rattle.level.specs.Laws.{Arithmetic, Laws}
 use Rattle.level.proofs.Digits.{low-bit}
 use Rattle.level.proofs.Ring.{times-left-comm, unit-times}
 use Rattle.multilinear.specs.Equality.{Point, factor, entry, equality, outer, inner, inner-count}
-use Rattle.multilinear.specs.Factored.{Factored, Tables-factor}
+use Rattle.multilinear.specs.Factored.{Factored}
 
 module _ {k : ℕ} (A : Arithmetic k) where
   pub entry-reduced : (s : Element k) (p : Point k) (i : ℕ) → entry A s p i ≡ entry A s p (i % 2 ^ length p)
@@ -62,6 +63,8 @@ module _ {k : ℕ} {A : Arithmetic k} (laws : Laws A) where
     started = entry-started;
     reduced = entry-reduced A;
     split = entry-split;
+    inner-length = λ p. omega (arith, length-drop (length p - inner-count (length p)) p);
+    outer-length = λ p. length-take-le (length p - inner-count (length p)) p (omega arith);
     factored = λ s p i.
         let q = inner p in
         ap (λ r. entry A s r i) (sym (halves p)) ∙ entry-split s (outer p) q i
@@ -70,6 +73,3 @@ module _ {k : ℕ} {A : Arithmetic k} (laws : Laws A) where
         let q = inner p in
         ap₂ (equality A) (sym (halves p)) (mul-pred h (pow-pos (length q))) ∙ entry-parts (A .unit) (outer p) q (b - 1) (2 ^ length q - 1) (ones-lt (length q));
   }
-
-pub tables-factor : Tables-factor
-tables-factor k A laws = factored laws

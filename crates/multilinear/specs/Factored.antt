@@ -4,8 +4,8 @@ use mathlib.Core.List.{_++_}
 use Prim.Native.Nat.{ℕ, _-_, _*_, _/_, _%_, _^_, _<_}
 use lib.ListN.{length}
 use Rattle.level.specs.Element.{Element}
-use Rattle.level.specs.Laws.{Arithmetic, Laws}
-use Rattle.multilinear.specs.Equality.{Point, entry, equality, outer, inner}
+use Rattle.level.specs.Laws.{Arithmetic}
+use Rattle.multilinear.specs.Equality.{Point, entry, equality, outer, inner, inner-count}
 
 pub record Factored {k : ℕ} (A : Arithmetic k) : Type 0 where
   -- a start value multiplies every entry
@@ -15,13 +15,12 @@ pub record Factored {k : ℕ} (A : Arithmetic k) : Type 0 where
   -- of a point in two parts, an entry is the product of an entry of each
   pub split : (s : Element k) (p q : Point k) (i : ℕ)
       → entry A s (p ++ q) i ≡ A .times (equality A p (i / 2 ^ length q)) (entry A s q i)
-  -- so it is for the outer and the inner factor
+  -- the inner factor has the last 14 coordinates, or all if fewer, and the outer the others
+  pub inner-length : (p : Point k) → length (inner p) ≡ inner-count (length p)
+  pub outer-length : (p : Point k) → length (outer p) ≡ length p - inner-count (length p)
+  -- an entry is the product of an entry of each
   pub factored : (s : Element k) (p : Point k) (i : ℕ)
       → entry A s p i ≡ A .times (equality A (outer p) (i / 2 ^ length (inner p))) (entry A s (inner p) (i % 2 ^ length (inner p)))
   -- the entry before block b begins is the last one of the block before it
   pub before-block : (p : Point k) (b : ℕ) → 0 < b
       → equality A p (b * 2 ^ length (inner p) - 1) ≡ A .times (equality A (outer p) (b - 1)) (equality A (inner p) (2 ^ length (inner p) - 1))
-
--- at every level
-abbrev pub Tables-factor : Type 0
-Tables-factor = (k : ℕ) (A : Arithmetic k) → Laws A → Factored A

@@ -1,23 +1,10 @@
 // Reads lines `LETTER HEX HEX` from standard input and prints for each the product of the two elements at the level that the
 // letter names, or a line that begins `error: `.
 use product_line::letter::reply;
+use product_line::letter::without_newline;
 use std::io;
 use std::io::BufRead;
 use std::io::BufReader;
-
-// A line without the newline that ended it.
-fn stripped(line: &[u8]) -> &[u8] {
-    match line {
-        [] => line,
-        [.., last] => {
-            if *last == b'\n' {
-                &line[0..line.len() - 1]
-            } else {
-                line
-            }
-        }
-    }
-}
 
 fn main(rt: LibcRuntime) -> io::Result<()> {
     let heap = rt.alloc();
@@ -28,7 +15,7 @@ fn main(rt: LibcRuntime) -> io::Result<()> {
         if input.read_until(b'\n', &mut line)? == 0 {
             break;
         }
-        let answer = reply(heap, stripped(line.as_slice()))?;
+        let answer = reply(heap, without_newline(line.as_slice()))?;
         println!(rt, "{answer}")?;
     }
     Ok(())

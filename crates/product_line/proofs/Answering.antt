@@ -9,23 +9,24 @@ use Rattle.std.specs.declared.option.Option.the-variants.{Some}
 use Rattle.std.proofs.shelf.Results.{cases-weaker}
 use Rattle.std.proofs.shelf.Lists.{drop-more, take-rest}
 use Rattle.product_line.specs.Lines.{Product, Bad-rest}
-use Rattle.product_line.specs.Letters.{Named, named, Answer, Refused, Bad-line}
+use Rattle.level_name.specs.Names.{named, log-of, arithmetic-of}
+use Rattle.level_name.specs.declared.LevelName.{LevelName}
+use Rattle.product_line.specs.Letters.{Answer, Refused, Bad-line}
 use Rattle.product_line.specs.declared.line.LineFault.{LineFault}
 use Rattle.product_line.specs.declared.line.LineFault.the-variants.{Letter, Shape, Digit, Memory}
 
-module _ (line rest : List ℕ) (letter : ℕ) (level : Named) (line-is : line ≡ letter ∷ rest) (level-is : named letter ≡ Some level) where
-  bad : (f : LineFault) → Bad-rest (level .log) rest f → Bad-line line f
+module _ (line rest : List ℕ) (letter : ℕ) (level : LevelName) (line-is : line ≡ letter ∷ rest) (level-is : named letter ≡ Some level) where
+  bad : (f : LineFault) → Bad-rest (log-of level) rest f → Bad-line line f
   bad Letter h = absurd h
   bad (Shape n) h = record { letter = letter; rest = rest; level = level; line-is = line-is; level-is = level-is; bad = h }
   bad (Digit p) h = record { letter = letter; rest = rest; level = level; line-is = line-is; level-is = level-is; bad = h }
   bad Memory h = record { letter = letter; rest = rest; level = level; line-is = line-is; level-is = level-is; bad = h }
 
-  pub answered : {S : Type 0} (text : S → List ℕ) (r : Result S LineFault) → Cases r (λ s. Product (level .arithmetic) rest (text s)) (Bad-rest (level .log) rest) → Cases r (λ s. Answer line (text s)) (Bad-line line)
+  pub answered : {S : Type 0} (text : S → List ℕ) (r : Result S LineFault) → Cases r (λ s. Product (arithmetic-of level) rest (text s)) (Bad-rest (log-of level) rest) → Cases r (λ s. Answer line (text s)) (Bad-line line)
   answered text r h =
       cases-weaker r h
       (λ s p. record { letter = letter; rest = rest; level = level; line-is = line-is; level-is = level-is; product = p }) bad
 
 -- a line by its first character, here as the code has it, and the rest
-pub first-and-rest : (line : List ℕ) (first letter : ℕ) → 0 < length line → first ≡ getD line 0 0 → first ≡ letter → line ≡ letter ∷ take (length line - 1) (drop 1 line)
-first-and-rest line first letter h e f =
-    drop-more line 0 0 h ∙ ap₂ (λ (x : ℕ) (l : List ℕ). x ∷ l) (sym e ∙ f) (sym (take-rest line 1))
+pub first-and-rest : (line : List ℕ) (first : ℕ) → 0 < length line → first ≡ getD line 0 0 → line ≡ first ∷ take (length line - 1) (drop 1 line)
+first-and-rest line first h e = drop-more line 0 0 h ∙ ap₂ (λ (x : ℕ) (l : List ℕ). x ∷ l) (sym e) (sym (take-rest line 1))

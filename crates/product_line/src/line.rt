@@ -1,5 +1,5 @@
 ghost use mathlib.Core.Path.{_≡_};
-ghost use Prim.Native.Nat.{ℕ, _+_, _*_, _≤_};
+ghost use Prim.Native.Nat.{ℕ, _+_, _*_, _<_, _≤_};
 ghost use lib.ListN.{length, take, drop};
 ghost use Rattle.element_text.specs.Hex.{Writes, byte-count};
 ghost use Rattle.product_line.specs.declared.line.LineFault.the-variants.{Memory};
@@ -34,6 +34,14 @@ impl From<AllocError> for LineFault as LineFaultFromAlloc {
         let AllocError = e;
         LineFault::Memory
     }
+}
+
+// The place in the line, the letter being at 1, of character `at` of a text that stands at `from` after the letter.
+fn place(from: usize, at: usize) -> usize
+    requires { ⌜ from + at < 66 ⌝ }
+    ensures { λ r. ⌜ r ≡ from + at + 2 ⌝ }
+{
+    from + at + 2
 }
 
 // The element whose text stands at `from` in what follows the letter.

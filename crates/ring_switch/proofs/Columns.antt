@@ -1,25 +1,26 @@
 -- Columns of the tensors of a table of bits, and weighted sums of them as sums over cells.
 use mathlib.Core.Path.{_≡_, refl, sym, ap, ap₂, subst, fun-ext, _∙_}
 use mathlib.Core.Bool.{Bool, true, false, not}
-use Prim.Native.Nat.{ℕ, zero, suc, _+_, _-_, _*_, _%_, _^_, _<_, _≤_}
+use Prim.Native.Nat.{ℕ, zero, suc, _+_, _-_, _*_, _^_, _<_, _≤_}
 use native.Mathlib.Omega.{arith}
 use native.Mathlib.Nat.{mod-eq-of-lt}
-use lib.ListN.{length, take-append-drop, length-drop}
+use lib.ListN.{length, take-append-drop}
 use lib.Pow.{pow-add}
-use Rattle.level.specs.Element.{Element, width, coordinate, plus, zeros}
+use Rattle.level.specs.Element.{Element, width, coordinate}
 use Rattle.level.specs.Laws.{Arithmetic, Laws}
 use Rattle.level.proofs.Ring.{unit-times, zeros-times}
 use Rattle.multilinear.specs.Sums.{sum, where-set, at-bit}
 use Rattle.multilinear.specs.Equality.{Point, equality, multilinear}
 use Rattle.multilinear.specs.Cells.{standing, packed}
-use Rattle.multilinear.proofs.Sums.{sum-same, sum-rows, sum-exchange, sum-times, at-bit-times}
+use Rattle.multilinear.proofs.Sums.{sum-same, sum-exchange, sum-times, at-bit-times}
 use Rattle.multilinear.proofs.Coordinates.{coordinate-gather, gather-sum, gather-at-bit}
 use Rattle.multilinear.proofs.Entries.{entry-parts}
 use Rattle.tensor_algebra.specs.Tensor.{exterior, column}
 use Rattle.ring_switch.specs.Opening.{high, low}
 use Rattle.ring_switch.specs.Claims.{starts, ends, tensor, carry, last, by-columns}
 use Rattle.ring_switch.specs.Slots.{packed-count}
-use Rattle.ring_switch.specs.Claim_laws.{Binary, opened}
+use Rattle.ring_switch.specs.Claim_laws.{Binary}
+use Rattle.ring_switch.proofs.Slot_prefix.{low-length}
 use Rattle.ring_switch.proofs.Slot_tensors.{exterior-zeros}
 
 module _ {k : ℕ} where
@@ -30,7 +31,7 @@ module _ {k : ℕ} where
   column-sum n e t v = gather-sum n v (λ w u. at-bit (coordinate (e w) u) (t w)) ∙ sum-same n _ _ (λ w h. gather-at-bit (e w) (t w) v)
 
   -- a test on an exterior product is a test on its first leg
-  where-exterior : (b : Bool) (x y : Element k) (u : ℕ) → where-set b (exterior x y u) ≡ exterior (where-set b x) y u
+  pub where-exterior : (b : Bool) (x y : Element k) (u : ℕ) → where-set b (exterior x y u) ≡ exterior (where-set b x) y u
   unfolding where-set
   where-exterior true x y u = refl
   where-exterior false x y u = sym (exterior-zeros y u)
@@ -64,13 +65,9 @@ module _ {k : ℕ} (bits : ℕ → ℕ) (binary : Binary bits) where
   unfolding last
   last-column r n e v h = tested-column n (ends r) e v h
 
-module _ {k : ℕ} (p : Point k) (h : k ≤ length p) where
-  low-length : length (low p) ≡ k
-  low-length = omega (arith, length-drop (length p - k) p)
-
-  -- the cells of a table, element by element
-  pub cell-count : 2 ^ length p ≡ packed-count p * width k
-  cell-count = let e : length p ≡ length p - k + k = omega arith in ap (λ n. 2 ^ n) e ∙ pow-add 2 (length p - k) k
+-- the cells of a table, element by element
+pub cell-count : {k : ℕ} (p : Point k) → k ≤ length p → 2 ^ length p ≡ packed-count p * width k
+cell-count {k} p h = let e : length p ≡ length p - k + k = omega arith in ap (λ n. 2 ^ n) e ∙ pow-add 2 (length p - k) k
 
 module _ {k : ℕ} {A : Arithmetic k} (laws : Laws A) where
   -- the entry of a cell

@@ -4,7 +4,7 @@ use mathlib.Core.Bool.{false, _&&_}
 use mathlib.Core.Logic.{⊎-elim}
 use Prim.Native.Nat.{ℕ, zero, suc, _+_, _-_, _*_, _/_, _%_, _^_, _<_, _≤_}
 use native.Mathlib.Omega.{arith}
-use native.Mathlib.Nat.{mod-add-mod, mul-mod-left, zero-mod, zero-add, mul-assoc, suc-mod, mod-self, mod-lt, mod-eq-of-lt}
+use native.Mathlib.Nat.{mod-add-mod, mul-mod-left, zero-mod, zero-add, mul-assoc, one-mul, suc-mod, mod-self, mod-lt, mod-eq-of-lt}
 use lib.Arith.{digits-div, digits-mod}
 use lib.Dec.{eqb}
 use lib.Pow.{pow-add, pow-pos, mod-pow-add, ones-split, ones-lt}
@@ -30,6 +30,9 @@ pow-multiple a n r h =
     let e : n ≡ n - r + r = omega arith in
     ap (λ m. a * m % 2 ^ r) (ap (λ m. 2 ^ m) e ∙ pow-add 2 (n - r) r) ∙ ap (λ m. m % 2 ^ r) (sym (mul-assoc a (2 ^ (n - r)) (2 ^ r)))
     ∙ mul-mod-left (a * 2 ^ (n - r)) (2 ^ r)
+
+pub pow-mod : (n r : ℕ) → r ≤ n → 2 ^ n % 2 ^ r ≡ 0
+pow-mod n r h = ap (λ m. m % 2 ^ r) (sym (one-mul (2 ^ n))) ∙ pow-multiple 1 n r h
 
 -- the entry after one that ends a column starts one, and no other does
 pub starts-suc : (r c : ℕ) → starts r (suc c) ≡ ends r c

@@ -1,8 +1,8 @@
 -- The slot: what a run of leading zeros and ones selects.
 use mathlib.Core.Path.{_≡_, refl, sym, ap, ap₂, subst, _∙_}
-use mathlib.Core.Bool.{Bool, true, false, cond}
-use mathlib.Core.List.{[], _∷_, _++_}
-use mathlib.Core.Logic.{_⊎_, inl, inr, ⊎-elim}
+use mathlib.Core.Bool.{cond}
+use mathlib.Core.List.{[], _∷_}
+use mathlib.Core.Logic.{_⊎_, ⊎-elim}
 use Prim.Native.Nat.{ℕ, zero, suc, _+_, _-_, _*_, _/_, _%_, _^_, _<_, _≤_}
 use native.Mathlib.Omega.{arith}
 use native.Mathlib.Nat.{mul-le-mul-right, mod-lt, mod-eq-of-lt, pow-suc}
@@ -11,16 +11,23 @@ use lib.Dec.{eqb}
 use lib.ListN.{length, take, drop, length-take, length-drop, take-append-drop}
 use lib.Pow.{pow-pos, pow-add, split, shr-lt}
 use lib.Seq.{take-take, length-take-le}
-use Rattle.std.proofs.shelf.Tests.{cases-lt, cases-eq}
+use Rattle.std.proofs.shelf.Tests.{cases-eq}
 use Rattle.std.proofs.shelf.Ways.{tells}
-use Rattle.std.proofs.shelf.Bits.{div-below, mod-below}
-use Rattle.level.specs.Element.{Element, plus, zeros}
+use Rattle.std.proofs.shelf.Bits.{div-below}
+use Rattle.level.specs.Element.{Element, zeros}
 use Rattle.level.specs.Laws.{Arithmetic, Laws}
 use Rattle.level.proofs.Elements.{same, zeros-is, plus-zeros, plus-self}
 use Rattle.level.proofs.Ring.{unit-times, zeros-times, times-zeros}
 use Rattle.multilinear.specs.Equality.{Point, factor, entry, equality}
 use Rattle.multilinear.proofs.Entries.{entry-agree, entry-parts}
-use Rattle.ring_switch.specs.Opening.{Prefix, View, selects, lead, run, prefix, limit, high}
+use Rattle.ring_switch.specs.Opening.{Prefix, View, selects, lead, run, prefix, limit, high, low}
+
+-- how many coordinates the packing keeps, and how many it absorbs
+pub high-length : {k : ℕ} (p : Point k) → length (high p) ≡ length p - k
+high-length {k} p = length-take-le (length p - k) p (omega arith)
+
+pub low-length : {k : ℕ} (p : Point k) → k ≤ length p → length (low p) ≡ k
+low-length {k} p h = omega (arith, length-drop (length p - k) p)
 
 -- a run's coordinates have the entry one at the run's address, and zero elsewhere
 pub record Selected {k : ℕ} (A : Arithmetic k) (p : Point k) (r : Prefix) : Type 0 where

@@ -1,16 +1,13 @@
 -- The tensor, the carry and the last over a slot: outside it the equality table is zero.
-use mathlib.Core.Path.{_≡_, refl, sym, ap, ap₂, subst, _∙_}
-use mathlib.Core.Bool.{Bool, true, false, not}
+use mathlib.Core.Path.{_≡_, ap, ap₂, _∙_}
+use mathlib.Core.Bool.{false, not}
 use mathlib.Core.Logic.{_⊎_, inl, inr, ⊎-elim}
-use Prim.Native.Nat.{ℕ, zero, suc, _+_, _-_, _*_, _/_, _%_, _^_, _<_, _≤_}
+use Prim.Native.Nat.{ℕ, _+_, _-_, _%_, _^_, _<_, _≤_}
 use native.Mathlib.Omega.{arith}
-use native.Mathlib.Nat.{mod-add-mod, mul-mod-left, zero-mod, zero-add, mul-assoc, one-mul}
 use lib.Dec.{eqb}
-use lib.ListN.{length, drop, length-drop}
-use lib.Pow.{pow-add}
-use lib.Seq.{length-take-le}
+use lib.ListN.{length, length-drop}
 use Rattle.std.specs.declared.option.Option.the-variants.{Some}
-use Rattle.std.proofs.shelf.Tests.{not-true, not-false, eq-eqb, eqb-false, cases-eq}
+use Rattle.std.proofs.shelf.Tests.{not-true, eqb-false}
 use Rattle.level.specs.Element.{Element, zeros}
 use Rattle.level.specs.Laws.{Arithmetic, Laws}
 use Rattle.multilinear.specs.Sums.{where-set, at-bit}
@@ -21,9 +18,9 @@ use Rattle.multilinear.proofs.Windows.{sum-window, where-same, where-none}
 use Rattle.tensor_algebra.specs.Tensor.{exterior}
 use Rattle.ring_switch.specs.Opening.{View, high, prefix, rest, slot-start, limit}
 use Rattle.ring_switch.specs.Claims.{starts, ends, tensor, carry, last}
-use Rattle.ring_switch.specs.Slots.{Slot, Stepped-slot, Slots-stand, Stepped-slots-stand, packed-count, slot-count, in-slot}
-use Rattle.ring_switch.proofs.Columns_bounds.{shift-mod, before-in, pow-multiple}
-use Rattle.ring_switch.proofs.Slot_prefix.{prefix-selected, prefix-limit, after-within, after-inside, after-outside}
+use Rattle.ring_switch.specs.Slots.{Slot, Stepped-slot, packed-count, slot-count}
+use Rattle.ring_switch.proofs.Columns_bounds.{shift-mod, before-in, pow-multiple, pow-mod}
+use Rattle.ring_switch.proofs.Slot_prefix.{high-length, prefix-selected, prefix-limit, after-within, after-inside, after-outside}
 
 module _ {k : ℕ} where
   pub exterior-zeros : (b : Element k) (u : ℕ) → exterior (zeros k) b u ≡ zeros k
@@ -71,15 +68,12 @@ module _ {k : ℕ} where
         inner i h y = ap (λ x. exterior x (t (s + i)) u) (ap e (before-in r s i y) ∙ o .inside (i - 1) (omega arith))
 
 module _ {k : ℕ} {A : Arithmetic k} (laws : Laws A) (p : Point k) where
-  high-length : length (high p) ≡ length p - k
-  high-length = length-take-le (length p - k) p (omega arith)
-
   slot-window : (view : View) → Window (equality A (high p)) (equality A (rest A p view)) (packed-count p) (slot-start A p view) (slot-count A p view)
   unfolding rest slot-start
   slot-window view =
       let r = prefix A p view in
       let s = prefix-selected laws p view in
-      let e = ap (λ n. 2 ^ n) high-length in
+      let e = ap (λ n. 2 ^ n) (high-length p) in
       record {
         within = omega (arith, after-within laws (high p) r s, e);
         inside = after-inside laws (high p) r s;
@@ -91,14 +85,14 @@ module _ {k : ℕ} {A : Arithmetic k} (laws : Laws A) (p : Point k) where
   slot view =
       let o = slot-window view in
       record {
-        coordinates = length-drop (prefix A p view .count) (high p) ∙ ap (λ n. n - prefix A p view .count) high-length;
+        coordinates = length-drop (prefix A p view .count) (high p) ∙ ap (λ n. n - prefix A p view .count) (high-length p);
         within = o .within;
         inside = o .inside;
         outside = o .outside;
         whole-tensor = tensor-window o;
       }
 
-  module _ (q : ℕ) (l : k < q) (h : q ≤ length p) where
+  module _ (q : ℕ) (h : q ≤ length p) where
     rows : q - k ≤ length (rest A p (Some q))
     unfolding limit
     rows = omega (arith, slot (Some q) .coordinates, prefix-limit laws p (Some q))
@@ -106,9 +100,6 @@ module _ {k : ℕ} {A : Arithmetic k} (laws : Laws A) (p : Point k) where
     start-aligned : slot-start A p (Some q) % 2 ^ (q - k) ≡ 0
     unfolding slot-start
     start-aligned = pow-multiple (prefix A p (Some q) .address) (length (rest A p (Some q))) (q - k) rows
-
-    count-aligned : slot-count A p (Some q) % 2 ^ (q - k) ≡ 0
-    count-aligned = ap (λ n. n % 2 ^ (q - k)) (sym (one-mul (slot-count A p (Some q)))) ∙ pow-multiple 1 (length (rest A p (Some q))) (q - k) rows
 
     pub stepped-slot : Stepped-slot A p q
     stepped-slot =
@@ -120,12 +111,6 @@ module _ {k : ℕ} {A : Arithmetic k} (laws : Laws A) (p : Point k) where
           same-starts = λ i. ap (λ n. eqb n 0) (shift-mod s i (2 ^ r) start-aligned);
           same-ends = λ i. ap (λ n. eqb n (2 ^ r - 1)) (shift-mod s i (2 ^ r) start-aligned);
           before = before-in r s;
-          whole-carry = λ t u. carry-window (slot-window (Some q)) t u r start-aligned count-aligned;
+          whole-carry = λ t u. carry-window (slot-window (Some q)) t u r start-aligned (pow-mod (length (rest A p (Some q))) r rows);
           whole-last = λ t u. last-window (slot-window (Some q)) t u r start-aligned;
         }
-
-pub slots-stand : Slots-stand
-slots-stand k A laws p view = slot laws p view
-
-pub stepped-slots-stand : Stepped-slots-stand
-stepped-slots-stand k A laws p q l h = stepped-slot laws p q l h

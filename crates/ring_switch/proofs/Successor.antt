@@ -1,21 +1,20 @@
 -- The successor claim.
-use mathlib.Core.Path.{_≡_, refl, sym, ap, ap₂, subst, _∙_}
-use mathlib.Core.Bool.{Bool, true, false, not, _&&_}
+use mathlib.Core.Path.{_≡_, sym, ap, ap₂, _∙_}
+use mathlib.Core.Bool.{true, false, not}
 use mathlib.Core.Logic.{⊎-elim}
-use Prim.Native.Nat.{ℕ, suc, _+_, _-_, _*_, _%_, _^_, _<_, _≤_}
+use Prim.Native.Nat.{ℕ, _+_, _-_, _*_, _^_, _<_, _≤_}
 use native.Mathlib.Omega.{arith}
-use native.Mathlib.Nat.{one-mul}
 use lib.Arith.{mul-pred}
 use lib.Dec.{eqb, ltb}
 use lib.ListN.{length}
 use lib.Pow.{pow-pos, ones-lt}
 use Rattle.std.proofs.shelf.Tests.{not-true, eqb-false, ltb-true, ltb-false, cases-bool}
-use Rattle.level.specs.Element.{Element, width, plus, zeros}
+use Rattle.level.specs.Element.{width, plus}
 use Rattle.level.specs.Laws.{Arithmetic, Laws}
 use Rattle.level.proofs.Elements.{plus-assoc}
 use Rattle.multilinear.specs.Sums.{sum, where-set, at-bit}
 use Rattle.multilinear.specs.Equality.{Point, equality, multilinear}
-use Rattle.multilinear.specs.Cells.{standing, packed, one-row-on}
+use Rattle.multilinear.specs.Cells.{standing, one-row-on}
 use Rattle.multilinear.proofs.Sums.{sum-same, sum-plus, sum-rows, at-bit-plus, times-sum, times-at-bit, times-where}
 use Rattle.multilinear.proofs.Windows.{sum-single, where-same, where-and, where-not-and, at-bit-where}
 use Rattle.tensor_algebra.specs.Tensor.{Tensor, column}
@@ -23,7 +22,7 @@ use Rattle.ring_switch.specs.Opening.{high, low}
 use Rattle.ring_switch.specs.Claims.{starts, ends, by-columns, inside, across, successor-claim}
 use Rattle.ring_switch.specs.Slots.{packed-count}
 use Rattle.ring_switch.specs.Claim_laws.{Binary, opened, opened-carry, opened-last, Successor-is-multilinear}
-use Rattle.ring_switch.proofs.Columns_bounds.{shift-mod, pow-multiple, starts-not, before-in, starts-split, ends-split}
+use Rattle.ring_switch.proofs.Columns_bounds.{shift-mod, pow-multiple, pow-mod, starts-not, starts-split, ends-split}
 use Rattle.ring_switch.proofs.Columns.{cell-count, cell-entry, multilinear-bits, weighed-columns, carry-column, last-column}
 use Rattle.ring_switch.proofs.Successor_cells.{received, sum-one-row-on}
 
@@ -45,8 +44,7 @@ module _ {k : ℕ} {A : Arithmetic k} (laws : Laws A) (bits : ℕ → ℕ) (bina
       → multilinear A (λ c. standing A (one-row-on q bits c)) p
       ≡ sum (packed-count p) (λ w. sum (width k) (λ v. at-bit (bits (w * width k + v)) (received q (equality A p) (w * width k + v))))
   value-cells q g =
-      let a : 2 ^ length p % 2 ^ q ≡ 0 = ap (λ n. n % 2 ^ q) (sym (one-mul (2 ^ length p))) ∙ pow-multiple 1 (length p) q g in
-      multilinear-bits laws (one-row-on q bits) p ∙ sum-one-row-on q (2 ^ length p) a bits (equality A p)
+      multilinear-bits laws (one-row-on q bits) p ∙ sum-one-row-on q (2 ^ length p) (pow-mod (length p) q g) bits (equality A p)
       ∙ ap (λ n. sum n (λ c. at-bit (bits c) (received q (equality A p) c))) (cell-count p h)
       ∙ sum-rows (packed-count p) (width k) (λ c. at-bit (bits c) (received q (equality A p) c))
 
@@ -157,8 +155,9 @@ module _ {k : ℕ} {A : Arithmetic k} (laws : Laws A) (bits : ℕ → ℕ) (bina
       ∙ ap (λ m. sum n (λ w. sum (width k) (λ v. at-bit (bits (w * width k + v)) (received m (equality A p) (w * width k + v))))) e
       ∙ sym (value-cells q g)
 
-pub successor-is-multilinear : Successor-is-multilinear
-successor-is-multilinear k A laws bits binary p h q g =
+pub successor-is-multilinear : {k : ℕ} {A : Arithmetic k} → Laws A → (bits : ℕ → ℕ) → Binary bits → (p : Point k) → k ≤ length p
+    → (q : ℕ) → q ≤ length p → Successor-is-multilinear A bits p q
+successor-is-multilinear {k} {A} laws bits binary p h q g =
     ⊎-elim
     (λ e. claim-across A (low p) q _ _ _ e ∙ across-is laws bits binary p h q g (ltb-true k q e))
     (λ e. claim-inside A (low p) q _ _ _ e ∙ inside-is laws bits binary p h q g (ltb-false k q e))

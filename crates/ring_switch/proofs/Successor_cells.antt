@@ -1,5 +1,5 @@
 -- The value of a table one row on, as a sum over the cells that its bits are read from.
-use mathlib.Core.Path.{_≡_, refl, sym, ap, ap₂, _∙_}
+use mathlib.Core.Path.{_≡_, sym, ap, ap₂, _∙_}
 use mathlib.Core.Bool.{Bool, true, false, not, cond}
 use Prim.Native.Nat.{ℕ, suc, _+_, _-_, _%_, _^_}
 use native.Mathlib.Omega.{arith}

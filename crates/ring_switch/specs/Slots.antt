@@ -6,7 +6,7 @@ use Prim.Native.Nat.{ℕ, _+_, _-_, _%_, _^_, _<_, _≤_}
 use lib.ListN.{length}
 use Rattle.std.specs.declared.option.Option.the-variants.{Some}
 use Rattle.level.specs.Element.{Element, zeros}
-use Rattle.level.specs.Laws.{Arithmetic, Laws}
+use Rattle.level.specs.Laws.{Arithmetic}
 use Rattle.multilinear.specs.Equality.{Point, equality}
 use Rattle.ring_switch.specs.Opening.{View, high, prefix, rest, slot-start}
 use Rattle.ring_switch.specs.Claims.{starts, ends, tensor, carry, last}
@@ -52,10 +52,3 @@ pub record Stepped-slot {k : ℕ} (A : Arithmetic k) (p : Point k) (q : ℕ) : T
   pub whole-last : (t : ℕ → Element k) (u : ℕ)
       → last (q - k) (packed-count p) (equality A (high p)) t u
       ≡ last (q - k) (slot-count A p (Some q)) (equality A (rest A p (Some q))) (in-slot A p (Some q) t) u
-
--- at every level
-abbrev pub Slots-stand : Type 0
-Slots-stand = (k : ℕ) (A : Arithmetic k) → Laws A → (p : Point k) (view : View) → Slot A p view
-
-abbrev pub Stepped-slots-stand : Type 0
-Stepped-slots-stand = (k : ℕ) (A : Arithmetic k) → Laws A → (p : Point k) (q : ℕ) → k < q → q ≤ length p → Stepped-slot A p q

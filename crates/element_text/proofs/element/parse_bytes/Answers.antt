@@ -12,7 +12,7 @@ pub returns-in-Break-bytes : need.returns-in-Break-bytes
 returns-in-Break-bytes c =
     let p = err-from-errBy (c .from-residual .result) (c .from-residual .ensures .1) in
     let e = c .in-Break-bytes .ensures tt in
-    rw (p .1, p .2) (omega (arith, e .0), broken (c .args .text .now) (c .loop-j .bytes) (c .loop-j .j) _ (c .loop-j .inv) (omega arith) (omega arith) (e .0) (e .1) (e .2) (e .3))
+    rw (p .1, p .2) (omega (arith, e .0), broken (c .args .text .now) (c .loop-j .bytes) (c .loop-j .j) _ (c .loop-j .inv) (omega arith) (e .0) (e .1) (e .2) (e .3))
 
 pub loop-j-again : need.loop-j-again
 loop-j-again c =

@@ -1,41 +1,46 @@
-use mathlib.Core.Path.{refl}
+use mathlib.Core.Path.{sym, ap, _∙_}
 use Prim.Native.Nat.{_<_}
 use borrow.Author.Needs.{needs}
 use lib.ListN.{length}
 use Rattle.std.specs.Of.String.{string-bytes}
+use Rattle.std.specs.declared.option.Option.the-variants.{Some}
 use Rattle.std.specs.declared.alloc.Global.{Global}
 use Rattle.doubling.specs.Doubled.{tower}
-use Rattle.polynomial.specs.Polynomial.{polynomial}
-use Rattle.product_line.specs.Letters.{tower-of}
+use Rattle.level_name.specs.declared.LevelName.the-variants.{TowerByte, Tower16, Tower32, Tower64, PolynomialByte}
 use Rattle.product_line.proofs.Answering.{answered, first-and-rest}
 use Rattle.product_line.proofs.letter.product_line.Needs as need
 
-pub returns-in-b : need.returns-in-b
+pub returns-in-TowerByte : need.returns-in-TowerByte
 unfolding tower
-returns-in-b c =
+returns-in-TowerByte c =
     let some : 0 < length (c .args .line .now) = search needs in
-    answered (c .args .line .now) _ 98 (tower-of 3) (first-and-rest (c .args .line .now) _ 98 some (c .from .ensures) (c .in-b .is)) refl (string-bytes {Z = Global}) (c .product .result) (c .product .ensures)
+    answered (c .args .line .now) _ _ TowerByte (first-and-rest (c .args .line .now) _ some (c .from .ensures)) (sym (c .in-Some .ensures tt) ∙ ap Some (c .in-TowerByte .is))
+    (string-bytes {Z = Global}) (c .product .result) (c .product .ensures)
 
-pub returns-in-w : need.returns-in-w
+pub returns-in-Tower16 : need.returns-in-Tower16
 unfolding tower
-returns-in-w c =
+returns-in-Tower16 c =
     let some : 0 < length (c .args .line .now) = search needs in
-    answered (c .args .line .now) _ 119 (tower-of 4) (first-and-rest (c .args .line .now) _ 119 some (c .from .ensures) (c .in-w .is)) refl (string-bytes {Z = Global}) (c .product-in-w .result) (c .product-in-w .ensures)
+    answered (c .args .line .now) _ _ Tower16 (first-and-rest (c .args .line .now) _ some (c .from .ensures)) (sym (c .in-Some .ensures tt) ∙ ap Some (c .in-Tower16 .is))
+    (string-bytes {Z = Global}) (c .product-in-Tower16 .result) (c .product-in-Tower16 .ensures)
 
-pub returns-in-d : need.returns-in-d
+pub returns-in-Tower32 : need.returns-in-Tower32
 unfolding tower
-returns-in-d c =
+returns-in-Tower32 c =
     let some : 0 < length (c .args .line .now) = search needs in
-    answered (c .args .line .now) _ 100 (tower-of 5) (first-and-rest (c .args .line .now) _ 100 some (c .from .ensures) (c .in-d .is)) refl (string-bytes {Z = Global}) (c .product-in-d .result) (c .product-in-d .ensures)
+    answered (c .args .line .now) _ _ Tower32 (first-and-rest (c .args .line .now) _ some (c .from .ensures)) (sym (c .in-Some .ensures tt) ∙ ap Some (c .in-Tower32 .is))
+    (string-bytes {Z = Global}) (c .product-in-Tower32 .result) (c .product-in-Tower32 .ensures)
 
-pub returns-in-q : need.returns-in-q
+pub returns-in-Tower64 : need.returns-in-Tower64
 unfolding tower
-returns-in-q c =
+returns-in-Tower64 c =
     let some : 0 < length (c .args .line .now) = search needs in
-    answered (c .args .line .now) _ 113 (tower-of 6) (first-and-rest (c .args .line .now) _ 113 some (c .from .ensures) (c .in-q .is)) refl (string-bytes {Z = Global}) (c .product-in-q .result) (c .product-in-q .ensures)
+    answered (c .args .line .now) _ _ Tower64 (first-and-rest (c .args .line .now) _ some (c .from .ensures)) (sym (c .in-Some .ensures tt) ∙ ap Some (c .in-Tower64 .is))
+    (string-bytes {Z = Global}) (c .product-in-Tower64 .result) (c .product-in-Tower64 .ensures)
 
-pub returns-in-a : need.returns-in-a
+pub returns-in-PolynomialByte : need.returns-in-PolynomialByte
 unfolding tower
-returns-in-a c =
+returns-in-PolynomialByte c =
     let some : 0 < length (c .args .line .now) = search needs in
-    answered (c .args .line .now) _ 97 (record { log = 3; arithmetic = polynomial }) (first-and-rest (c .args .line .now) _ 97 some (c .from .ensures) (c .in-a .is)) refl (string-bytes {Z = Global}) (c .product-in-a .result) (c .product-in-a .ensures)
+    answered (c .args .line .now) _ _ PolynomialByte (first-and-rest (c .args .line .now) _ some (c .from .ensures)) (sym (c .in-Some .ensures tt) ∙ ap Some (c .in-PolynomialByte .is))
+    (string-bytes {Z = Global}) (c .product-in-PolynomialByte .result) (c .product-in-PolynomialByte .ensures)

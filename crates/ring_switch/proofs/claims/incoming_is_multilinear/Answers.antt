@@ -2,4 +2,4 @@ use Rattle.ring_switch.proofs.Incoming.{incoming-is-multilinear}
 use Rattle.ring_switch.proofs.claims.incoming_is_multilinear.Needs as need
 
 pub returns : need.returns
-returns c = incoming-is-multilinear
+returns c = search incoming-is-multilinear

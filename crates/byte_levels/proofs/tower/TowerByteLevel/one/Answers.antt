@@ -1,9 +1,6 @@
-use mathlib.Core.Path.{refl}
-use Rattle.level.specs.Element.{cut, zeros}
-use Rattle.level.proofs.Elements.{same}
-use Rattle.doubling.specs.Doubled.{join, doubled, tower}
+use borrow.Author.Needs.{needs}
+use Rattle.byte_levels.proofs.TowerProducts.{one-is}
 use Rattle.byte_levels.proofs.tower.TowerByteLevel.one.Needs as need
 
 pub returns : need.returns
-unfolding tower doubled join cut zeros
-returns c = same _ _ refl
+returns c = search (needs, one-is)

@@ -1,0 +1,5 @@
+mod Words
+mod Splitting
+mod Collecting
+mod Refusing
+mod Hexadecimal

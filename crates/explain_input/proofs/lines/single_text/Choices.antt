@@ -1,0 +1,14 @@
+use mathlib.Core.Path.{_≡_}
+use mathlib.Core.List.{_++_}
+use lib.ListN.{length}
+use denote.Ref.{now}
+use Rattle.std.specs.Options.{mapped}
+use Rattle.std.specs.Vec.{listOf}
+use Rattle.explain_input.specs.Keys.{lines, texts}
+use Rattle.explain_input.proofs.lines.single_text.Given as given
+
+abbrev pub Inv-loop-rest : given.InvT-loop-rest
+Inv-loop-rest l = texts (l .key) (lines (l .text)) ≡ listOf (mapped now (l .found)) ++ texts (l .key) (lines (l .rest))
+
+abbrev pub μ-loop-rest : given.MeasureT-loop-rest
+μ-loop-rest l = length (l .rest)
