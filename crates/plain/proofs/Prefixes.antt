@@ -11,23 +11,19 @@ use lib.Pow.{pow-mono, pow-add}
 use lib.ListN.{length, take, drop, getD, length-map}
 use Rattle.std.specs.declared.option.Option.the-variants.{Some, None}
 use Rattle.std.proofs.shelf.Bits.{shl-below}
-use Rattle.std.proofs.shelf.Lists.{drop-more, drop-all, drop-take, take-take, take-map, drop-map, length-take-le}
+use Rattle.std.proofs.shelf.Lists.{drop-more, drop-all, drop-take, take-take, take-map, drop-map}
 use Rattle.std.proofs.shelf.Tests.{eq-eqb, ne-eqb}
 use Rattle.level.specs.Element.{Element, width, zeros}
 use Rattle.level.specs.Laws.{Arithmetic, Laws}
 use Rattle.level.proofs.Elements.{same, zeros-is}
 use Rattle.multilinear.specs.Equality.{Point}
-use Rattle.ring_switch.proofs.Slot_tensors.{slots-stand}
+use Rattle.ring_switch.proofs.Slot_tensors.{slot}
 use Rattle.ring_switch.specs.Opening.{View, Prefix, high, limit, selects, lead, run, prefix, rest, slot-start}
 
 pub limit-within : (k n : ℕ) (view : View) → limit k n view ≤ n - k
 unfolding limit
 limit-within k n None = omega arith
 limit-within k n (Some q) = omega arith
-
--- the kept coordinates
-pub length-high : {k : ℕ} (p : Point k) → length (high p) ≡ length p - k
-length-high {k} p = length-take-le (length p - k) p (omega arith)
 
 module _ {k : ℕ} (A : Arithmetic k) where
   number-differs : (x y : Element k) → (x ≡ y → ⊥) → eqb (x .number) (y .number) ≡ false
@@ -151,5 +147,5 @@ pub slot-cells : {k : ℕ} {A : Arithmetic k} → Laws A → (p : Point k) (view
 slot-cells {k} {A} laws p view s l h few e d =
     let m = length p - k in
     let room : m + k ≤ 64 = omega arith in
-    let inside : s + 2 ^ l ≤ 2 ^ m = rw (e, d) (slots-stand k A laws p view .within) in
+    let inside : s + 2 ^ l ≤ 2 ^ m = rw (e, d) (slot laws p view .within) in
     le-trans (mul-le-mul-right (width k) inside) (rw (← pow-add 2 m k) (pow-mono room))

@@ -4,8 +4,8 @@ use native.Mathlib.Omega.{arith}
 use lib.ListN.{length, take, length-map, length-take}
 use Rattle.std.proofs.shelf.Lists.{take-map}
 use Rattle.ring_switch.specs.Opening.{run, prefix}
-use Rattle.ring_switch.proofs.Slot_prefix.{prefix-selected}
-use Rattle.plain.proofs.Prefixes.{limit-within, length-high, prefix-is-run}
+use Rattle.ring_switch.proofs.Slot_prefix.{high-length, prefix-selected}
+use Rattle.plain.proofs.Prefixes.{limit-within, prefix-is-run}
 use Rattle.plain.proofs.opening.fixed_prefix.Needs as need
 
 pub part-leading-run-end : need.part-leading-run-end
@@ -30,6 +30,6 @@ returns g c =
     record {
       count = count;
       address = address;
-      within = rw count (omega (arith, s .within, length-high (map (m .means) xs), length-map xs (m .means)));
+      within = rw count (omega (arith, s .within, high-length (map (m .means) xs), length-map xs (m .means)));
       bounded = rw (count, address) (s .fits);
     }
