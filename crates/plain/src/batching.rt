@@ -36,7 +36,7 @@ fn settled_weight<L: Level>(batching: &[L], slot: &[L], i: usize) -> L
 }
 
 // x where the test holds, else zero.
-fn where_set<L: Level>(test: bool, x: L) -> L
+pub fn where_set<L: Level>(test: bool, x: L) -> L
     ensures { λ r. ⌜ means r ≡ where-set test (means x) ⌝ }
 {
     if test { x } else { L::zero() }

@@ -14,12 +14,23 @@ use level::level::Level;
 fn plus_where<L: Level>(value: L, test: bool, factor: L, x: L) -> L
     ensures { λ r. ⌜ means r ≡ plus (means value) (where-set test (arithmetic .times (means factor) (means x))) ⌝ }
 {
-    if test { value.add(factor.mul(x)) } else { value }
+    if test {
+        value.add(factor.mul(x))
+    } else {
+        value
+    }
 }
 
 // A settled weight with what the challenge adds: its product with the weight before unless a column starts here, and the product
 // of its square with the weight itself where one ends.
-fn with_challenge<L: Level>(settled: L, before: L, starts: bool, ends: bool, alpha: L, alpha_squared: L) -> L
+fn with_challenge<L: Level>(
+    settled: L,
+    before: L,
+    starts: bool,
+    ends: bool,
+    alpha: L,
+    alpha_squared: L,
+) -> L
     ensures { λ r. ⌜ means r ≡ plus (plus (means settled) (where-set (not starts) (arithmetic .times (means alpha) (means before)))) (where-set ends (arithmetic .times (means «alpha_squared») (means settled))) ⌝ }
 {
     let carried = plus_where(settled, !starts, alpha, before);

@@ -23,7 +23,7 @@ loop-i-again g c =
     one-more m A (c .args .rows) (m (c .args .alpha)) s (length (c .args .table .now)) i xs (c .with-challenge .result) here
     (λ j h. c .loop-i .inv .0 j (omega arith)) (λ j h l. c .loop-i .inv .1 j (omega arith) l)
     (combined m A (c .args .rows) (m (c .args .alpha)) s i _ _ _ _ _ _
-      (lent-read m xs i (c .index-table-i .result) here (c .index-table-i .is) ∙ c .loop-i .inv .0 i (omega arith))
-      (lent-read m xs (c .saturating-sub .result) (c .index-table-saturating-sub .result) (omega arith) (c .index-table-saturating-sub .is) ∙ ap (lent m xs) e ∙ c .loop-i .inv .0 (i - 1) (omega arith))
-      (c .mul-alpha-squared .ensures) (row-is (c .args .rows) i (c .pre)) (ap (λ n. n - 1) (one-shl (c .args .rows) 64 (c .pre)))
-      (c .with-challenge .ensures))
+    (lent-read m xs i (c .index-table-i .result) here (c .index-table-i .is) ∙ c .loop-i .inv .0 i (omega arith))
+    (lent-read m xs (c .saturating-sub .result) (c .index-table-saturating-sub .result) (omega arith) (c .index-table-saturating-sub .is) ∙ ap (lent m xs) e ∙ c .loop-i .inv .0 (i - 1) (omega arith))
+    (c .mul-alpha-squared .ensures) (row-is (c .args .rows) i (c .pre)) (ap (λ n. n - 1) (one-shl (c .args .rows) 64 (c .pre)))
+    (c .with-challenge .ensures))
