@@ -1,0 +1,6 @@
+use Rattle.doubling.specs.Doubled.{tower}
+use Rattle.bench_products.proofs.chain_tower_64.Needs as need
+
+pub returns : need.returns
+unfolding tower
+returns c = c .chain-low .ensures
