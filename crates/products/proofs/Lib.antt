@@ -1,0 +1,5 @@
+pub mod Emptying
+pub mod Adding
+pub mod Halving
+pub mod Rows_by_halves
+pub mod Reading
