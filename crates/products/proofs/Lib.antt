@@ -3,3 +3,4 @@ pub mod Adding
 pub mod Halving
 pub mod Rows_by_halves
 pub mod Reading
+pub mod Reading_bytes

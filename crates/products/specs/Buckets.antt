@@ -55,3 +55,9 @@ pub record Read-out {k : ℕ} (j : ℕ) (before after rows-before rows-after : �
   pub other-rows : (u : ℕ) → (u < 8 * j) ⊎ (8 * j + 8 ≤ u) → rows-after u ≡ rows-before u
   pub buckets : (s : ℕ) → s < 256 → after (256 * j + s) ≡ halvings 8 (from-place (256 * j) before) s
   pub other-buckets : (i : ℕ) → (i < 256 * j) ⊎ (256 * j + 256 ≤ i) → after i ≡ before i
+
+-- The rows of the bytes below n are read out.
+pub record Bytes-read {k : ℕ} (n : ℕ) (before after rows-after : ℕ → Element k) : Type 0 where
+  pub rows : (j i : ℕ) → j < n → i < 8 → rows-after (8 * j + i) ≡ with-bit i (from-place (256 * j) before)
+  pub buckets : (j s : ℕ) → j < n → s < 256 → after (256 * j + s) ≡ halvings 8 (from-place (256 * j) before) s
+  pub left : (i : ℕ) → 256 * n ≤ i → after i ≡ before i

@@ -5,7 +5,7 @@ ghost use denote.Ref.{name};
 ghost use Rattle.level.specs.Element.{width, zeros};
 ghost use Rattle.multilinear.specs.Lent.{lent};
 ghost use Rattle.multilinear.specs.Sums.{sum};
-ghost use Rattle.products.specs.Buckets.{bytes, Empty, Added, Bucketed, Halved, Read-out};
+ghost use Rattle.products.specs.Buckets.{bytes, Empty, Added, Bucketed, Halved, Read-out, Bytes-read};
 use level::level::Level;
 
 // How many bytes the coordinates of an element fill.
@@ -85,5 +85,50 @@ fn read_byte<L: Level>(buckets: &mut [L], rows: &mut [L], j: usize)
 {
     for i in (0..8).rev() {
         rows[8 * j + i] = halve(buckets, 256 * j, half(i));
+    }
+}
+
+// Reads all rows out of the buckets, which are left halved.
+fn read_rows<L: Level>(buckets: &mut [L], rows: &mut [L])
+    requires narrow { ⌜ L·Level .log ≤ 7 ⌝ }
+    requires buckets { ⌜ length (now buckets) ≡ 256 * bytes (L·Level .log) ⌝ }
+    requires rows { ⌜ length (now rows) ≡ 8 * bytes (L·Level .log) ⌝ }
+    ensures { λ _. ⌜ Bytes-read (bytes (L·Level .log)) (lent means (now (buckets .entry))) (lent means (now (buckets .exit))) (lent means (now (rows .exit))) ⌝ }
+{
+    for j in 0..byte_count::<L>() {
+        read_byte(buckets, rows, j);
+    }
+}
+
+// A sum of exterior products over lent buckets: 256 for each byte of an element.
+pub struct BitTensorBuckets<'a, L> {
+    buckets: &'a mut [L],
+}
+
+impl<'a, L: Level> BitTensorBuckets<'a, L> {
+    // Buckets over lent memory, as it stands.
+    pub fn new(buckets: &'a mut [L]) -> BitTensorBuckets<'a, L>
+        ensures same { λ r. ⌜ name (r .buckets) ≡ name (buckets .entry) ⌝ }
+        ensures held { λ r. ⌜ now (r .buckets) ≡ now (buckets .entry) ⌝ }
+    {
+        BitTensorBuckets { buckets }
+    }
+
+    // Forgets every term.
+    pub fn clear(&mut self)
+        ensures same { λ _. ⌜ name (now (self .exit) .buckets) ≡ name (now (self .entry) .buckets) ⌝ }
+        ensures cleared { λ _. ⌜ Empty (lent means (now (now (self .exit) .buckets))) ⌝ }
+    {
+        empty_all(self.buckets);
+    }
+
+    // Adds a ⊗ b to the sum.
+    pub fn add_exterior_product(&mut self, a: L, b: L)
+        requires narrow { ⌜ L·Level .log ≤ 7 ⌝ }
+        requires size { ⌜ length (now (now self .buckets)) ≡ 256 * bytes (L·Level .log) ⌝ }
+        ensures same { λ _. ⌜ name (now (self .exit) .buckets) ≡ name (now (self .entry) .buckets) ⌝ }
+        ensures added { λ _. ⌜ Added (means a) (means b) (lent means (now (now (self .entry) .buckets))) (lent means (now (now (self .exit) .buckets))) ⌝ }
+    {
+        add_term(self.buckets, a, b);
     }
 }
