@@ -1,5 +1,5 @@
 -- A term that is being added to the buckets, byte by byte.
-use mathlib.Core.Path.{_≡_, refl, sym, ap, _∙_}
+use mathlib.Core.Path.{_≡_, refl, sym, ap, ap₂, _∙_}
 use mathlib.Core.List.{List}
 use mathlib.Core.Logic.{⊎-elim}
 use Prim.Native.Nat.{ℕ, _+_, _*_, _^_, _<_, _≤_}
@@ -63,3 +63,17 @@ unfolding sixteen
 adding-ends {k} a b values done n before after narrow shown e h w j s l g =
     let value : getD values j 0 ≡ byte a j = ap (λ vs. getD vs j 0) shown ∙ digit-at 16 (a .number) j (omega (arith, few-bytes k narrow)) in
     w .added j (omega arith) s g ∙ ap (λ v. plus (before (256 * j + s)) (where-set (eqb v s) b)) value
+
+module _ {k : ℕ} (a b : ℕ → Element k) where
+  -- no terms
+  pub bucketed-none : (held : ℕ → Element k) → Empty held → Bucketed a b 0 held
+  unfolding bucket sum
+  bucketed-none held e j s h l = e (256 * j + s)
+
+  -- one term more
+  pub bucketed-more : (n : ℕ) (x y : Element k) (before after : ℕ → Element k) → a n ≡ x → b n ≡ y → Added x y before after
+      → Bucketed a b n before → Bucketed a b (n + 1) after
+  unfolding bucket sum
+  bucketed-more n x y before after ex ey step e j s h l =
+      step j s h l ∙ ap (λ t. plus t (where-set (eqb (byte x j) s) y)) (e j s h l)
+      ∙ ap₂ (λ p q. plus (bucket a b n j s) (where-set (eqb (byte p j) s) q)) (sym ex) (sym ey) ∙ ap (λ m. bucket a b m j s) (sym (add-one n))

@@ -11,7 +11,7 @@ use Rattle.level.specs.Element.{Element, plus, zeros}
 use Rattle.multilinear.specs.Lent.{lent}
 use Rattle.multilinear.specs.Sums.{sum}
 use Rattle.multilinear.proofs.Lent.{lent-read, lent-written, lent-kept}
-use Rattle.products.specs.Buckets.{Halved}
+use Rattle.products.specs.Halves.{Halved}
 
 -- the first `done` places are halved, and `upper` is the sum of what was added into them
 pub record Halving {k : ℕ} (start half done : ℕ) (before after : ℕ → Element k) (upper : Element k) : Type 0 where

@@ -1,22 +1,28 @@
 -- The rows of a byte from its buckets, halved bit by bit from the highest.
 use mathlib.Core.Path.{_≡_, refl, sym, ap, ap₂, _∙_}
 use mathlib.Core.Bool.{cond}
+use mathlib.Core.Logic.{⊎-elim}
 use Prim.Native.Nat.{ℕ, zero, suc, _+_, _-_, _*_, _/_, _%_, _^_, _<_, _≤_}
 use native.Mathlib.Omega.{arith}
 use native.Mathlib.Nat.{pow-suc, div-eq-of-lt}
 use lib.Arith.{digits-div, digits-mod}
 use lib.Dec.{ltb}
-use Rattle.std.proofs.shelf.Tests.{cond-below}
+use lib.Pow.{pow-mono}
+use Rattle.std.proofs.shelf.Tests.{cond-below, cond-above, cases-lt}
 use Rattle.level.specs.Element.{Element, plus, zeros}
 use Rattle.level.proofs.Elements.{zeros-plus}
 use Rattle.level.proofs.Digits.{low-bit}
 use Rattle.multilinear.specs.Sums.{sum, at-bit}
 use Rattle.multilinear.proofs.Sums.{sum-same, sum-none, sum-plus, sum-append, at-bit-plus}
-use Rattle.products.specs.Buckets.{halvings, with-bit}
+use Rattle.products.specs.Halves.{halvings, with-bit}
 
 -- twice a power of two
 twice : (m : ℕ) → 2 ^ suc m ≡ 2 ^ m + 2 ^ m
 twice m = omega (arith, pow-suc 2 m)
+
+-- half of 256 at most
+pub at-most : (n : ℕ) → 2 ^ (7 - n) ≤ 128
+at-most n = let l : 7 - n ≤ 7 = omega arith in pow-mono l
 
 module _ {k : ℕ} where
   -- the sum of the first 2^m entries at whose place bit i is set
@@ -67,3 +73,15 @@ module _ {k : ℕ} where
   highest-row n f h =
       let p : 8 - n ≡ suc (7 - n) = omega arith in
       bits-left n (7 - n) f (omega arith) (omega arith) ∙ ap (λ a. over-bit a (7 - n) (halvings n f)) p ∙ upper-half (7 - n) (halvings n f)
+
+  -- tables that agree stay alike
+  pub halvings-same : (n : ℕ) (f g : ℕ → Element k) → n ≤ 8 → ((s : ℕ) → s < 256 → f s ≡ g s) → (s : ℕ) → s < 256 → halvings n f s ≡ halvings n g s
+  unfolding halvings
+  halvings-same zero f g h e s l = e s l
+  halvings-same (suc n) f g h e s l =
+      let half = 2 ^ (7 - n) in
+      let rest = halvings-same n f g (omega arith) e in
+      ⊎-elim
+      (λ b. sym (cond-below s half _ _ b) ∙ ap₂ plus (rest s l) (rest (half + s) (omega (arith, at-most n))) ∙ cond-below s half _ _ b)
+      (λ b. sym (cond-above s half (plus (halvings n f s) (halvings n f (half + s))) _ _ b refl) ∙ rest s l ∙ cond-above s half _ _ _ b refl)
+      (cases-lt s half)

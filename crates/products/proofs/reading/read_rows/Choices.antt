@@ -1,6 +1,6 @@
 use Rattle.multilinear.specs.Lent.{lent}
-use Rattle.products.specs.Buckets.{Bytes-read}
-use Rattle.products.proofs.buckets.read_rows.Given as given
+use Rattle.products.proofs.Reading_bytes.{Bytes-read}
+use Rattle.products.proofs.reading.read_rows.Given as given
 
 abbrev pub Inv-loop-j : given.InvT-loop-j
 Inv-loop-j g l =

@@ -6,27 +6,26 @@ use Prim.Native.Nat.{ℕ, suc, _+_, _-_, _*_, _^_, _<_, _≤_}
 use native.Mathlib.Omega.{arith}
 use native.Mathlib.Nat.{add-assoc}
 use lib.ListN.{length, set}
-use lib.Pow.{pow-mono}
 use Rattle.std.proofs.shelf.Tests.{cases-lt, cases-eq, cond-below, cond-above}
 use Rattle.level.specs.Element.{Element, plus}
 use Rattle.multilinear.specs.Lent.{lent}
 use Rattle.multilinear.specs.Sums.{sum}
 use Rattle.multilinear.proofs.Lent.{lent-written, lent-kept}
 use Rattle.multilinear.proofs.Sums.{sum-same}
-use Rattle.products.specs.Buckets.{Halved, halvings, from-place, with-bit, Read-out}
-use Rattle.products.proofs.Rows_by_halves.{highest-row}
+use Rattle.products.specs.Halves.{Halved, halvings, of-byte, with-bit, Byte-read}
+use Rattle.products.proofs.Rows_by_halves.{at-most, highest-row}
 
 -- the rows of the bits from `left` on are read out, after as many halvings
 pub record Reading {k : ℕ} (j left : ℕ) (before after rows-before rows-after : ℕ → Element k) : Type 0 where
-  pub rows : (i : ℕ) → left ≤ i → i < 8 → rows-after (8 * j + i) ≡ with-bit i (from-place (256 * j) before)
+  pub rows : (i : ℕ) → left ≤ i → i < 8 → rows-after (8 * j + i) ≡ with-bit i (of-byte j before)
   pub other-rows : (u : ℕ) → (u < 8 * j) ⊎ (8 * j + 8 ≤ u) → rows-after u ≡ rows-before u
-  pub buckets : (s : ℕ) → s < 256 → after (256 * j + s) ≡ halvings (8 - left) (from-place (256 * j) before) s
+  pub buckets : (s : ℕ) → s < 256 → after (256 * j + s) ≡ halvings (8 - left) (of-byte j before) s
   pub other-buckets : (i : ℕ) → (i < 256 * j) ⊎ (256 * j + 256 ≤ i) → after i ≡ before i
 
 module _ {k : ℕ} (j n half : ℕ) (f after halved : ℕ → Element k) (h : n < 8) (size : half ≡ 2 ^ (7 - n)) (step : Halved (256 * j) half half after halved)
     (e : (s : ℕ) → s < 256 → after (256 * j + s) ≡ halvings n f s) where
   room : half ≤ 128
-  room = let l : 7 - n ≤ 7 = omega arith in let p : 2 ^ (7 - n) ≤ 2 ^ 7 = pow-mono l in omega arith
+  room = omega (arith, at-most n)
 
   -- an entry of the upper half
   upper : (s : ℕ) → s < half → after (256 * j + half + s) ≡ halvings n f (half + s)
@@ -64,7 +63,7 @@ module _ {k : ℕ} (j : ℕ) (before rows-before : ℕ → Element k) where
       let p : i ≡ 7 - n = omega arith in
       let q : suc n ≡ 8 - i = omega arith in
       let small : n < 8 = omega arith in
-      let f : ℕ → Element k = from-place (256 * j) before in
+      let f : ℕ → Element k = of-byte j before in
       let size′ = size ∙ ap (λ m. 2 ^ m) p in
       let at = 8 * j + i in
       record {
@@ -83,12 +82,12 @@ module _ {k : ℕ} (j : ℕ) (before rows-before : ℕ → Element k) where
       }
 
   pub reading-ends : (left : ℕ) (after rows-after : ℕ → Element k) → left ≤ 0 → Reading j left before after rows-before rows-after
-      → Read-out j before after rows-before rows-after
+      → Byte-read j before after rows-before rows-after
   reading-ends left after rows-after h w =
       let e : 8 - left ≡ 8 = omega arith in
       record {
         rows = λ i l. w .rows i (omega arith) l;
         other-rows = w .other-rows;
-        buckets = λ s l. w .buckets s l ∙ ap (λ n. halvings n (from-place (256 * j) before) s) e;
+        buckets = λ s l. w .buckets s l ∙ ap (λ n. halvings n (of-byte j before) s) e;
         other-buckets = w .other-buckets;
       }

@@ -1,6 +1,6 @@
 use Rattle.multilinear.specs.Lent.{lent}
-use Rattle.products.proofs.Reading.{Reading}
-use Rattle.products.proofs.buckets.read_byte.Given as given
+use Rattle.products.proofs.Reading_bits.{Reading}
+use Rattle.products.proofs.reading.read_byte.Given as given
 
 abbrev pub Inv-loop-i : given.InvT-loop-i
 Inv-loop-i g l =

@@ -1,6 +1,6 @@
 use Rattle.multilinear.specs.Lent.{lent}
 use Rattle.products.proofs.Adding.{Adding}
-use Rattle.products.proofs.buckets.add_term.Given as given
+use Rattle.products.proofs.gathering.add_term.Given as given
 
 abbrev pub Inv-loop-j : given.InvT-loop-j
 Inv-loop-j g l =

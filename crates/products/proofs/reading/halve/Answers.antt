@@ -1,7 +1,7 @@
 use mathlib.Core.Path.{_≡_}
 use native.Mathlib.Omega.{arith}
 use Rattle.products.proofs.Halving.{halving-begins, halving-more}
-use Rattle.products.proofs.buckets.halve.Needs as need
+use Rattle.products.proofs.reading.halve.Needs as need
 
 pub loop-s-holds : need.loop-s-holds
 loop-s-holds g c = halving-begins _ _ _ _ (c .zero-sum .ensures)

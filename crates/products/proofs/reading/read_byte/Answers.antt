@@ -1,6 +1,6 @@
 use native.Mathlib.Omega.{arith}
-use Rattle.products.proofs.Reading.{reading-begins, reading-more, reading-ends}
-use Rattle.products.proofs.buckets.read_byte.Needs as need
+use Rattle.products.proofs.Reading_bits.{reading-begins, reading-more, reading-ends}
+use Rattle.products.proofs.reading.read_byte.Needs as need
 
 pub loop-i-holds : need.loop-i-holds
 loop-i-holds g c = reading-begins _ _ _

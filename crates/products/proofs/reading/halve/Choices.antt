@@ -1,6 +1,6 @@
 use Rattle.multilinear.specs.Lent.{lent}
 use Rattle.products.proofs.Halving.{Halving}
-use Rattle.products.proofs.buckets.halve.Given as given
+use Rattle.products.proofs.reading.halve.Given as given
 
 abbrev pub Inv-loop-s : given.InvT-loop-s
 Inv-loop-s g l =

@@ -1,4 +1,4 @@
--- Buckets that are being emptied, place by place.
+-- Lent slices that are being filled, place by place.
 use mathlib.Core.Path.{_≡_, _∙_}
 use mathlib.Core.List.{List, map}
 use mathlib.Core.Logic.{⊎-elim}
@@ -19,10 +19,10 @@ module _ {X : Type 0} {k : ℕ} (means : X → Element k) where
   lent-past xs i h = getD-past (map means xs) i (zeros k) (omega (arith, length-map xs means))
 
   -- one place more
-  pub emptied-more : (xs : List X) (done : ℕ) (x : X) → done < length xs → means x ≡ zeros k
-      → ((i : ℕ) → i < done → lent means xs i ≡ zeros k) → (i : ℕ) → i < done + 1 → lent means (set xs done x) i ≡ zeros k
-  emptied-more xs done x h e below = below-more _ done (λ i l. lent-kept means xs done i x (omega arith) ∙ below i l) (lent-written means xs done x h ∙ e)
+  pub filled-more : (f : ℕ → Element k) (xs : List X) (done : ℕ) (x : X) → done < length xs → means x ≡ f done
+      → ((i : ℕ) → i < done → lent means xs i ≡ f i) → (i : ℕ) → i < done + 1 → lent means (set xs done x) i ≡ f i
+  filled-more f xs done x h e below = below-more _ done (λ i l. lent-kept means xs done i x (omega arith) ∙ below i l) (lent-written means xs done x h ∙ e)
 
-  -- all of them
-  pub emptied-all : (xs : List X) (done : ℕ) → length xs ≤ done → ((i : ℕ) → i < done → lent means xs i ≡ zeros k) → Empty (lent means xs)
-  emptied-all xs done h below i = ⊎-elim (below i) (λ g. lent-past xs i (omega arith)) (cases-lt i done)
+  -- every place, where zeros are filled in
+  pub filled-zeros : (xs : List X) (done : ℕ) → length xs ≤ done → ((i : ℕ) → i < done → lent means xs i ≡ zeros k) → Empty (lent means xs)
+  filled-zeros xs done h below i = ⊎-elim (below i) (λ g. lent-past xs i (omega arith)) (cases-lt i done)
