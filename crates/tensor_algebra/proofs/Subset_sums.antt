@@ -19,6 +19,13 @@ use Rattle.tensor_algebra.proofs.Columns.{at-plus, at-bit-xor}
 use Rattle.tensor_algebra.proofs.Basis.{at-power, at-basis, by-basis}
 use Rattle.tensor_algebra.proofs.Lowest_bit.{lowest-set, lowest-below}
 
+-- eight coordinates or more are whole bytes
+pub eights : (k : ℕ) → 3 ≤ k → width k ≡ width k / 8 * 8
+eights k h =
+    let e : k ≡ (k - 3) + 3 = omega arith in
+    let p : 2 ^ k ≡ 2 ^ (k - 3) * 8 = ap (λ n. 2 ^ n) e ∙ pow-add 2 (k - 3) 3 in
+    omega arith
+
 module _ {k : ℕ} (f : ℕ → Element k) where
   pub subset-zeros : subset-sum f (zeros k) ≡ zeros k
   unfolding subset-sum at-bit
@@ -52,17 +59,10 @@ module _ {k : ℕ} (f : ℕ → Element k) where
       ∙ sum-same (width k) _ _ (λ u _.
       ap (subset-sum f) (times-at-bit laws (coordinate x u) a (basis k u)) ∙ subset-at-bit (coordinate x u) (A .times a (basis k u)))
 
-  -- a sum over eight coordinates at a time
-  eights : 3 ≤ k → width k ≡ width k / 8 * 8
-  eights h =
-      let e : k ≡ (k - 3) + 3 = omega arith in
-      let p : 2 ^ k ≡ 2 ^ (k - 3) * 8 = ap (λ n. 2 ^ n) e ∙ pow-add 2 (k - 3) 3 in
-      omega arith
-
   pub subset-bytes : 3 ≤ k → (x : Element k) → subset-sum f x ≡ sum (width k / 8) (λ j. byte-sum f j (byte x j))
   unfolding subset-sum byte-sum
   subset-bytes h x =
-      ap (λ n. sum n (λ u. at-bit (coordinate x u) (f u))) (eights h)
+      ap (λ n. sum n (λ u. at-bit (coordinate x u) (f u))) (eights k h)
       ∙ sum-rows (width k / 8) 8 (λ u. at-bit (coordinate x u) (f u))
       ∙ sum-same (width k / 8) _ _ (λ j _. sum-same 8 _ _ (λ b l.
       ap (λ n. at-bit (coordinate x (n + b)) (f (n + b))) (mul-comm j 8)
