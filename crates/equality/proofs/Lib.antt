@@ -1,0 +1,2 @@
+pub mod Widening
+pub mod Tabulating
