@@ -4,10 +4,9 @@ use mathlib.Core.List.{List, map}
 use Prim.Native.Nat.{ℕ, zero, suc, _+_, _-_, _*_, _/_, _%_, _^_, _<_, _≤_}
 use native.Mathlib.Omega.{arith}
 use lib.Arith.{mul-pred, digits-div, digits-mod}
-use lib.ListN.{length, take, drop, length-map}
+use lib.ListN.{length, take, drop, length-map, length-drop}
 use Rattle.std.proofs.shelf.Bits.{div-add-mod', div-below, mod-below}
 use Rattle.std.proofs.shelf.Lists.{take-map, drop-map}
-use Rattle.std.proofs.shelf.Parts.{between-to-end}
 use Rattle.level.specs.Element.{Element}
 use Rattle.level.specs.Laws.{Arithmetic, Laws}
 use Rattle.multilinear.specs.Equality.{Point, entry, equality, outer, inner, inner-count}
@@ -15,25 +14,29 @@ use Rattle.multilinear.specs.Lent.{lent}
 use Rattle.multilinear.proofs.Entries.{factored}
 use Rattle.equality.specs.Tables.{Tabulated, Factors}
 
+-- there is an inner entry for each index of the last coordinates
+pub inner-size : {X : Type 0} (point last : List X) (n : ℕ) → last ≡ drop (length point - inner-count (length point)) point → n ≡ 2 ^ inner-count (length point)
+    → n ≡ 2 ^ length last
+inner-size point last n e size =
+    let l = length point in
+    let all : inner-count l ≡ length last = omega (arith, ap length e, length-drop (l - inner-count l) point) in
+    size ∙ ap (λ j. 2 ^ j) all
+
 module _ {X : Type 0} {k : ℕ} (means : X → Element k) (A : Arithmetic k) where
-  -- the two parts of a point, as slices of it
-  outer-part : (point : List X) (v : ℕ) → v ≡ length point - inner-count (length point) → map means (take v point) ≡ outer (map means point)
-  outer-part point v e =
-      sym (take-map means v point) ∙ ap (λ j. take j (map means point)) (e ∙ ap (λ l. l - inner-count l) (sym (length-map point means)))
-
-  inner-part : (point : List X) (v : ℕ) → v ≡ length point - inner-count (length point)
-      → map means (take (length point - v) (drop v point)) ≡ inner (map means point)
-  inner-part point v e =
-      ap (map means) (between-to-end point v (length point) (omega arith)) ∙ sym (drop-map means v point)
-      ∙ ap (λ j. drop j (map means point)) (e ∙ ap (λ l. l - inner-count l) (sym (length-map point means)))
-
-  pub factors-written : (point : List X) (v : ℕ) (start one : Element k) (outers inners : List X) → v ≡ length point - inner-count (length point) → one ≡ A .unit
-      → Tabulated means A one (map means (take v point)) outers → Tabulated means A start (map means (take (length point - v) (drop v point))) inners
+  -- the two parts of a point, by what they mean
+  pub factors-written : (point first last : List X) (start one : Element k) (outers inners : List X)
+      → first ≡ take (length point - inner-count (length point)) point → last ≡ drop (length point - inner-count (length point)) point
+      → one ≡ A .unit → Tabulated means A one (map means first) outers → Tabulated means A start (map means last) inners
       → Factors means A start (map means point) outers inners
-  factors-written point v start one outers inners e u o i = record {
-    outer-table = subst₂ (λ s p. Tabulated means A s p outers) u (outer-part point v e) o;
-    inner-table = subst (λ p. Tabulated means A start p inners) (inner-part point v e) i;
-  }
+  factors-written point first last start one outers inners a b u o i =
+      let n = length point - inner-count (length point) in
+      let same : n ≡ length (map means point) - inner-count (length (map means point)) = ap (λ l. l - inner-count l) (sym (length-map point means)) in
+      let p : map means first ≡ outer (map means point) = ap (map means) a ∙ sym (take-map means n point) ∙ ap (λ j. take j (map means point)) same in
+      let q : map means last ≡ inner (map means point) = ap (map means) b ∙ sym (drop-map means n point) ∙ ap (λ j. drop j (map means point)) same in
+      record {
+        outer-table = subst₂ (λ s r. Tabulated means A s r outers) u p o;
+        inner-table = subst (λ r. Tabulated means A start r inners) q i;
+      }
 
 -- the block and the place of an index of m blocks of n entries
 positive : (m n index : ℕ) → index < m * n → 0 < n

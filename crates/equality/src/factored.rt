@@ -1,7 +1,7 @@
 ghost use mathlib.Core.Path.{_≡_};
 ghost use mathlib.Core.List.{map};
 ghost use Prim.Native.Nat.{_-_, _*_, _/_, _%_, _^_, _<_, _≤_};
-ghost use lib.ListN.{length};
+ghost use lib.ListN.{length, take, drop};
 ghost use Rattle.level.specs.Element.{Element, zeros};
 ghost use Rattle.multilinear.specs.Equality.{Point, entry, inner-count};
 ghost use Rattle.multilinear.specs.Lent.{lent};
@@ -26,15 +26,23 @@ pub fn outer_variables(num_variables: usize) -> usize
     num_variables - inner_variables(num_variables)
 }
 
+// A point in two: the coordinates of the outer factor, and those of the inner.
+fn halves<L: Level>(point: &[L]) -> (&[L], &[L])
+    ensures outer { λ r. ⌜ now (r .0) ≡ take (length (now (point .entry)) - inner-count (length (now (point .entry)))) (now (point .entry)) ⌝ }
+    ensures inner { λ r. ⌜ now (r .1) ≡ drop (length (now (point .entry)) - inner-count (length (now (point .entry)))) (now (point .entry)) ⌝ }
+{
+    point.split_at(outer_variables(point.len()))
+}
+
 // Writes the two factors of a point's equality table, the inner one begun from a start value.
 pub fn factor<L: Level>(outer: &mut [L], inner: &mut [L], point: &[L], start: L)
     requires outer_len { ⌜ length (now outer) ≡ 2 ^ (length (now point) - inner-count (length (now point))) ⌝ }
     requires inner_len { ⌜ length (now inner) ≡ 2 ^ inner-count (length (now point)) ⌝ }
     ensures { λ _. ⌜ Factors means arithmetic (means start) (map means (now (point .entry))) (now (outer .exit)) (now (inner .exit)) ⌝ }
 {
-    let split = outer_variables(point.len());
-    equality_table(outer, &point[..split], L::one());
-    equality_table(inner, &point[split..], start);
+    let (first, last) = halves(point);
+    equality_table(outer, first, L::one());
+    equality_table(inner, last, start);
 }
 
 // What stands at a place of a table.
@@ -66,7 +74,7 @@ impl<'a, L: Level> FactoredEquality<'a, L> {
         requires { ⌜ length (now (now self .outer)) * length (now (now self .inner)) < 2 ^ 64 ⌝ }
         ensures { λ r. ⌜ r ≡ length (now (now (self .entry) .outer)) * length (now (now (self .entry) .inner)) ⌝ }
     {
-        self.outer.len() * self.inner.len()
+        self.outer.len() * self.block_len()
     }
 
     // The product of an entry of each factor.
