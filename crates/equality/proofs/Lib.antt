@@ -1,0 +1,3 @@
+pub mod Widening
+pub mod Tabulating
+pub mod Factoring
