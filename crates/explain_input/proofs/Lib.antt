@@ -3,3 +3,4 @@ mod Splitting
 mod Collecting
 mod Refusing
 mod Hexadecimal
+mod Joining
