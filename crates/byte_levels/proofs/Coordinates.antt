@@ -15,10 +15,6 @@ pub zero-is : cut 3 0 ≡ zeros 3
 unfolding cut zeros
 zero-is = same _ _ refl
 
-pub cut-plus : (k a b : ℕ) → cut k (bitXor a b) ≡ plus (cut k a) (cut k b)
-unfolding cut plus
-cut-plus k a b = same _ _ (xor-mod a b (width k))
-
 -- an element is what its number writes
 pub cut-of : {k : ℕ} (n : ℕ) (x : Element k) → n ≡ x .number → cut k n ≡ x
 cut-of {k} n x e = ap (cut k) e ∙ cut-number x

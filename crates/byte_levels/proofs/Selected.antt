@@ -11,11 +11,11 @@ use lib.ListN.{length, getD, drop}
 use Rattle.std.proofs.shelf.Lists.{drop-more, drop-all}
 use Rattle.level.specs.Element.{cut}
 use Rattle.level.specs.Laws.{Arithmetic, Laws}
-use Rattle.level.proofs.Elements.{plus-is}
+use Rattle.level.proofs.Elements.{plus-is, cut-xor}
 use Rattle.level.proofs.Ring.{plus-times}
-use Rattle.polynomial.proofs.Linear.{Linear, bit-cases, agree, at-zero, linear-sum, linear-after, linear-zero, linear-odd, linear-shr}
+use Rattle.level.proofs.Ands.{bit-cases}
+use Rattle.polynomial.proofs.Linear.{Linear, agree, at-zero, linear-sum, linear-after, linear-zero, linear-odd, linear-shr}
 use Rattle.byte_levels.specs.Rows.{selected}
-use Rattle.byte_levels.proofs.Coordinates.{cut-plus}
 
 -- a bit times a byte is a byte
 pub odd-times-fits : (a b : ℕ) → b < 256 → a % 2 * b < 256
@@ -57,7 +57,7 @@ selected-mod (row ∷ rows) a =
 
 module _ {A : Arithmetic 3} (laws : Laws A) (b : ℕ) where
   times-left : Linear (λ a. (A .times (cut 3 a) (cut 3 b)) .number)
-  times-left = record { at-sum = λ a c. ap (λ x. (A .times x (cut 3 b)) .number) (cut-plus 3 a c) ∙ ap (λ x. x .number) (plus-times laws (cut 3 a) (cut 3 c) (cut 3 b)) ∙ plus-is _ _ }
+  times-left = record { at-sum = λ a c. ap (λ x. (A .times x (cut 3 b)) .number) (cut-xor 3 a c) ∙ ap (λ x. x .number) (plus-times laws (cut 3 a) (cut 3 c) (cut 3 b)) ∙ plus-is _ _ }
 
   -- where row i is b times the element of bit i, the rows picked by a make a times b
   pub selected-times : (n : ℕ) (rows : List ℕ) → ((i : ℕ) → i < n → getD rows i 0 ≡ (A .times (cut 3 (2 ^ i)) (cut 3 b)) .number) → (a : ℕ) → a < 2 ^ n → selected a rows ≡ (A .times (cut 3 a) (cut 3 b)) .number

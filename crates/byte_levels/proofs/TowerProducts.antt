@@ -5,7 +5,7 @@ use native.Mathlib.Omega.{arith}
 use lib.Bits.{bitXor}
 use lib.ListN.{getD}
 use Rattle.level.specs.Element.{cut, plus, zeros}
-use Rattle.level.proofs.Elements.{same, cut-number}
+use Rattle.level.proofs.Elements.{same, cut-number, cut-xor}
 use Rattle.doubling.specs.Doubled.{low, high, join, doubled, tower}
 use Rattle.level.proofs.Ring.{plus-times}
 use Rattle.doubling.proofs.Rings.{tower-laws}
@@ -13,7 +13,7 @@ use Rattle.polynomial.proofs.Tests.{equal-below}
 use Rattle.byte_levels.specs.Rows.{selected}
 use Rattle.byte_levels.specs.TowerSteps.{times-x0, times-x1, times-x2, low-multiples}
 use Rattle.byte_levels.specs.Bytes.{Tower-byte}
-use Rattle.byte_levels.proofs.Coordinates.{cut-plus, cut-of, byte-number, one-times}
+use Rattle.byte_levels.proofs.Coordinates.{cut-of, byte-number, one-times}
 use Rattle.byte_levels.proofs.Selected.{selected-mod, selected-times}
 
 pub tower-byte : Tower-byte
@@ -63,7 +63,7 @@ tower-product a b l h r ha hb hh el eh er =
     ap (cut 3) (el ∙ sym (selected-mod (low-multiples b) a)) ∙ low-product (a % 2 ^ 4) b (omega arith) hb in
     let high : cut 3 r ≡ tower 3 .times (cut 3 0x10) (tower 3 .times (cut 3 (a / 2 ^ 4)) (cut 3 b)) =
     cut-of r _ (er ∙ tower-byte .by-x2 h hh) ∙ ap (tower 3 .times (cut 3 0x10)) (ap (cut 3) eh ∙ low-product (a / 2 ^ 4) b (omega arith) hb) in
-    cut-plus 3 l r ∙ ap₂ plus low (high ∙ sym (laws .times-assoc _ _ _)) ∙ sym (plus-times laws _ _ _) ∙ ap (λ x. tower 3 .times x (cut 3 b)) (sym (halves a ha))
+    cut-xor 3 l r ∙ ap₂ plus low (high ∙ sym (laws .times-assoc _ _ _)) ∙ sym (plus-times laws _ _ _) ∙ ap (λ x. tower 3 .times x (cut 3 b)) (sym (halves a ha))
 
 pub generator-times : (b r : ℕ) → b < 2 ^ 8 → r ≡ times-x2 b → cut 3 r ≡ tower 3 .times (tower 3 .root) (cut 3 b)
 generator-times b r h e = cut-of r _ (e ∙ tower-byte .by-x2 b h) ∙ ap (λ x. tower 3 .times x (cut 3 b)) generator-is

@@ -151,6 +151,7 @@ module _ (n : ℕ) where
     where
       whole : text ++ (32 ∷ []) ≡ ended ts
       whole = ended-of text ts (omega (arith, bad .0)) e
+
       inside : i < length ts
       inside = below (decLt i (length ts))
         where
@@ -208,8 +209,8 @@ bad-text k text i (Digit place) e = e
 bad-text k text i Memory e = tt
 
 pub refused-write-no-elements : Refused-write-no-elements
-refused-write-no-elements k text xs (Shape digits) m (d , none) w =
+refused-write-no-elements k text xs (Shape digits) m (d, none) w =
     none (w .texts) (subst (λ n. All (λ t. length t ≡ n) (w .texts)) (sym d) (each-lengths (w .texts) xs (w .writes))) (w .text-is)
-refused-write-no-elements k text xs (Digit place) m (at , _ , inside , l , none) w =
+refused-write-no-elements k text xs (Digit place) m (at, _, inside, l, none) w =
     let d = all-digits text xs at w inside l in none (d .0) (d .1) (d .2)
 refused-write-no-elements k text xs Memory m e w = m refl

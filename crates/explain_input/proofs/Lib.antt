@@ -1,4 +1,4 @@
-mod Words
+mod Prefixes
 mod Splitting
 mod Collecting
 mod Refusing

@@ -3,3 +3,4 @@ pub mod Values
 pub mod Inputs
 pub mod Bytes
 pub mod Elements
+pub mod Messages

@@ -5,5 +5,6 @@ pub mod elements;
 pub mod fault;
 pub mod input;
 pub mod key;
-pub mod lines;
-pub mod number;
+mod lines;
+mod number;
+pub mod words;

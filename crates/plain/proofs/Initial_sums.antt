@@ -1,34 +1,33 @@
 -- The sum over a slot of packed elements times weights, as the initial sum of an opening's tensors.
 use mathlib.Core.Path.{_≡_, refl, sym, ap, ap₂, _∙_, fun-ext}
 use mathlib.Core.Bool.{Bool, true, false, cond}
-use Prim.Native.Nat.{ℕ, _+_, _-_, _^_, _<_, _≤_}
+use Prim.Native.Nat.{ℕ, _+_, _-_, _^_, _≤_}
 use native.Mathlib.Omega.{arith}
 use lib.Dec.{ltb}
 use lib.ListN.{length}
 use Rattle.std.specs.declared.option.Option.{Option}
 use Rattle.std.specs.declared.option.Option.the-variants.{Some, None}
-use Rattle.std.proofs.shelf.Tests.{ltb-true}
 use Rattle.level.specs.Element.{Element}
 use Rattle.level.specs.Laws.{Arithmetic, Laws}
 use Rattle.multilinear.specs.Sums.{sum}
 use Rattle.multilinear.specs.Equality.{Point, equality}
 use Rattle.multilinear.specs.Cells.{packed}
-use Rattle.ring_switch.specs.Opening.{View, kept, high, rest, slot-start}
-use Rattle.ring_switch.specs.Batching.{Stepping, weight, initial-sum, successor-rows}
+use Rattle.ring_switch.specs.Opening.{View, kept, rest, slot-start}
+use Rattle.ring_switch.specs.Batching.{Stepping, weight, initial-sum}
 use Rattle.ring_switch.specs.Claims.{tensor, carry, last}
 use Rattle.ring_switch.specs.Claim_laws.{opened, opened-carry, opened-last}
 use Rattle.ring_switch.specs.Slots.{in-slot, slot-count}
-use Rattle.ring_switch.proofs.Slot_tensors.{slots-stand, stepped-slots-stand}
-use Rattle.ring_switch.proofs.Initial.{initial-sum-is-weighted}
-use Rattle.plain.specs.Openings.{named, stepped-rows, Slot-of, Initial-sum-of}
+use Rattle.ring_switch.proofs.Slot_tensors.{slot, stepped-slot}
+use Rattle.ring_switch.proofs.Initial.{initial-weighted}
+use Rattle.plain.specs.Openings.{named, stepped-rows, Initial-sum-of}
 
--- where row variables are kept, the view names more than an element absorbs
-kept-view : (k q r : ℕ) → Some r ≡ kept k (Some q) → (k < q) × (r ≡ q - k)
+-- the row variables that are kept, where any are
+kept-rows : (k q r : ℕ) → Some r ≡ kept k (Some q) → r ≡ q - k
 unfolding kept
-kept-view k q r e = by-test (ltb k q) refl
+kept-rows k q r e = by-test (ltb k q) refl
   where
-    by-test : (t : Bool) → ltb k q ≡ t → (k < q) × (r ≡ q - k)
-    by-test true h = let e′ : Some r ≡ Some (q - k) = e ∙ ap (λ t. cond t (Some (q - k)) None) h in (ltb-true k q h, cc)
+    by-test : (t : Bool) → ltb k q ≡ t → r ≡ q - k
+    by-test true h = let e′ : Some r ≡ Some (q - k) = e ∙ ap (λ t. cond t (Some (q - k)) None) h in cc
     by-test false h =
         let e′ : Some r ≡ None = e ∙ ap (λ t. cond t (Some (q - k)) None) h in
         let z : _≡_ {A = ℕ} 0 1 = cc in
@@ -37,7 +36,7 @@ kept-view k q r e = by-test (ltb k q) refl
 module _ {k : ℕ} {A : Arithmetic k} (laws : Laws A) (f : ℕ → Element k) (bits : ℕ → ℕ) (p : Point k) where
   -- the slot has the whole of the tensor
   whole : (view : View) → tensor (slot-count A p view) (equality A (rest A p view)) (in-slot A p view (packed k bits)) ≡ opened A p bits
-  whole view = fun-ext (λ u. sym (slots-stand k A laws p view .whole-tensor (packed k bits) u))
+  whole view = fun-ext (λ u. sym (slot laws p view .whole-tensor (packed k bits) u))
 
   weighted : View → Option (Stepping k) → Element k
   weighted view b =
@@ -47,15 +46,14 @@ module _ {k : ℕ} {A : Arithmetic k} (laws : Laws A) (f : ℕ → Element k) (b
       → weighted view b ≡ initial-sum A f b (opened A p bits) (opened-carry A p (named view) bits) (opened-last A p (named view) bits)
   unfolding kept initial-sum weighted
   of-slot view None e h =
-      sym (initial-sum-is-weighted k A laws f (rest A p view) None 0 tt (slot-count A p view) (in-slot A p view (packed k bits)))
+      sym (initial-weighted laws f (rest A p view) None 0 tt (slot-count A p view) (in-slot A p view (packed k bits)))
       ∙ ap (λ t. initial-sum A f None t t t) (whole view)
   of-slot None (Some b) e h = let z : _≡_ {A = ℕ} 0 1 = cc in absurd (omega arith)
   of-slot (Some q) (Some b) e h =
-      let r = kept-view k q (b .rows) e in
-      let s = stepped-slots-stand k A laws p q (r .0) h in
+      let s = stepped-slot laws p q h in
       let t = packed k bits in
       let view = Some q in
-      sym (initial-sum-is-weighted k A laws f (rest A p view) (Some b) (q - k) (r .1) (slot-count A p view) (in-slot A p view t))
+      sym (initial-weighted laws f (rest A p view) (Some b) (q - k) (kept-rows k q (b .rows) e) (slot-count A p view) (in-slot A p view t))
       ∙ ap (λ x. initial-sum A f (Some b) x
       (carry (q - k) (slot-count A p view) (equality A (rest A p view)) (in-slot A p view t))
       (last (q - k) (slot-count A p view) (equality A (rest A p view)) (in-slot A p view t))) (whole view)

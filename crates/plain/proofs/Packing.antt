@@ -1,14 +1,14 @@
 -- A loop that gathers the coordinates of an element bit by bit.
 use mathlib.Core.Path.{_≡_, refl, sym, ap, ap₂, _∙_}
 use mathlib.Core.List.{List}
-use Prim.Native.Nat.{ℕ, zero, suc, _+_, _-_, _*_, _/_, _%_, _^_, _<_, _≤_}
+use Prim.Native.Nat.{ℕ, _+_, _*_, _%_, _^_, _<_, _≤_}
 use native.Mathlib.Omega.{arith}
 use native.Mathlib.Numerals.{add-one}
 use native.Mathlib.Nat.{mod-eq-of-lt, add-comm, le-trans, mul-le-mul-left, mul-le-mul-right, mul-one}
 use lib.Pow.{pow-pos}
 use lib.Bits.{bitOr}
 use Rattle.std.proofs.shelf.Bits.{or-comm, or-shifted, shl-whole}
-use Rattle.level.specs.Element.{Element, width, cut}
+use Rattle.level.specs.Element.{Element, width}
 use Rattle.level.specs.Bytes.{digits, from-sixteen}
 use Rattle.level.proofs.Elements.{same, cut-is}
 use Rattle.level.proofs.Words.{from-digits}

@@ -1,24 +1,24 @@
 -- The leading zeros and ones of a point, coordinate by coordinate from the first.
 use mathlib.Core.Path.{_≡_, refl, sym, ap, ap₂, _∙_}
-use mathlib.Core.Bool.{true, false, cond}
-use mathlib.Core.List.{List, [], _∷_, map}
-use mathlib.Core.Logic.{_⊎_, ⊎-elim}
-use Prim.Native.Nat.{ℕ, zero, suc, _+_, _-_, _*_, _^_, _<_, _≤_, min}
+use mathlib.Core.Bool.{false, cond}
+use mathlib.Core.List.{List, map}
+use Prim.Native.Nat.{ℕ, zero, suc, _+_, _-_, _*_, _^_, _<_, _≤_}
 use native.Mathlib.Omega.{arith}
 use native.Mathlib.Numerals.{add-one}
-use native.Mathlib.Nat.{pow-suc, mul-assoc, add-mul, mul-comm}
+use native.Mathlib.Nat.{pow-suc, mul-assoc, add-mul, mul-comm, lt-of-lt-of-le, le-trans, mul-le-mul-right}
 use lib.Dec.{eqb}
-use lib.Pow.{pow-mono}
-use lib.ListN.{length, take, drop, getD}
-use Rattle.std.specs.declared.option.Option.{Option}
+use lib.Pow.{pow-mono, pow-add}
+use lib.ListN.{length, take, drop, getD, length-map}
 use Rattle.std.specs.declared.option.Option.the-variants.{Some, None}
-use Rattle.std.proofs.shelf.Lists.{drop-more, drop-all, take-take}
+use Rattle.std.proofs.shelf.Bits.{shl-below}
+use Rattle.std.proofs.shelf.Lists.{drop-more, drop-all, drop-take, take-take, take-map, drop-map}
 use Rattle.std.proofs.shelf.Tests.{eq-eqb, ne-eqb}
-use Rattle.level.specs.Element.{Element, zeros}
-use Rattle.level.specs.Laws.{Arithmetic}
+use Rattle.level.specs.Element.{Element, width, zeros}
+use Rattle.level.specs.Laws.{Arithmetic, Laws}
 use Rattle.level.proofs.Elements.{same, zeros-is}
 use Rattle.multilinear.specs.Equality.{Point}
-use Rattle.ring_switch.specs.Opening.{View, Prefix, kept, limit, selects, lead, run, prefix}
+use Rattle.ring_switch.proofs.Slot_tensors.{slot}
+use Rattle.ring_switch.specs.Opening.{View, Prefix, high, limit, selects, lead, run, prefix, rest, slot-start}
 
 pub limit-within : (k n : ℕ) (view : View) → limit k n view ≤ n - k
 unfolding limit
@@ -120,3 +120,32 @@ module _ {k : ℕ} (A : Arithmetic k) where
   prefix-is-run p view l n len e =
       let within : l ≤ length p - k = omega (arith, limit-within k n view) in
       ap (λ i. run A (take i (take (length p - k) p))) (ap (λ m. limit k m view) len ∙ sym e) ∙ ap (run A) (take-take l (length p - k) p within)
+
+  -- the slot's coordinates, as a part of the point
+  pub rest-is-part : {X : Type 0} (means : X → Element k) (xs : List X) (view : View) (c h : ℕ)
+      → c ≡ prefix A (map means xs) view .count → h ≡ length xs - k → c ≤ h
+      → map means (take (h - c) (drop c xs)) ≡ rest A (map means xs) view
+  unfolding rest
+  rest-is-part means xs view c h counted kept within =
+      let e : c + (h - c) ≡ h = omega arith in
+      sym (take-map means (h - c) (drop c xs)) ∙ ap (take (h - c)) (sym (drop-map means c xs)) ∙ sym (drop-take c (h - c) (map means xs))
+      ∙ ap (λ n. drop c (take n (map means xs))) (e ∙ kept ∙ ap (λ n. n - k) (sym (length-map xs means)))
+      ∙ ap (λ n. drop n (high (map means xs))) counted
+
+  -- and its first packed element
+  pub slot-starts : (p : Point k) (view : View) (a l : ℕ) → a ≡ prefix A p view .address → l ≡ length (rest A p view) → a * 2 ^ l ≡ slot-start A p view
+  unfolding slot-start
+  slot-starts p view a l e h = ap₂ (λ x y. x * 2 ^ y) e h
+
+-- an address of c bits before slots of 2^l leaves room where c + l is below 64
+pub address-fits : (a c l : ℕ) → a < 2 ^ c → c + l < 64 → a * 2 ^ l < 2 ^ 64
+address-fits a c l h room = let few : c + l ≤ 64 = omega arith in lt-of-lt-of-le (shl-below a c l h) (pow-mono few)
+
+-- a slot's packed elements lie within the cells of a table of fewer than 64 variables
+pub slot-cells : {k : ℕ} {A : Arithmetic k} → Laws A → (p : Point k) (view : View) (s l : ℕ) → k ≤ 7 → length p < 64
+    → s ≡ slot-start A p view → l ≡ length (rest A p view) → (s + 2 ^ l) * width k ≤ 2 ^ 64
+slot-cells {k} {A} laws p view s l h few e d =
+    let m = length p - k in
+    let room : m + k ≤ 64 = omega arith in
+    let inside : s + 2 ^ l ≤ 2 ^ m = rw (e, d) (slot laws p view .within) in
+    le-trans (mul-le-mul-right (width k) inside) (rw (← pow-add 2 m k) (pow-mono room))

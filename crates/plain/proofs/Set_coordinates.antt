@@ -1,12 +1,12 @@
 -- A loop that sums the weights of set coordinates.
-use mathlib.Core.Path.{_≡_, sym, ap, _∙_}
+use mathlib.Core.Path.{_≡_, ap, _∙_}
 use Prim.Native.Nat.{ℕ, _+_, _/_, _%_, _^_, _<_, _≤_}
 use native.Mathlib.Omega.{arith}
 use lib.Pow.{pow-mono}
 use Rattle.level.specs.Element.{Element, width, plus}
 use Rattle.multilinear.specs.Sums.{sum, at-bit}
 use Rattle.tensor_algebra.specs.Tensor.{subset-sum}
-use Rattle.plain.proofs.Summing.{sum-more, sum-ends}
+use Rattle.plain.proofs.Summing.{sum-more}
 
 -- all coordinates of a level of at most 128
 pub few-coordinates : (k u : ℕ) → k ≤ 7 → u < width k → u < 128

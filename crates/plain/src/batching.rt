@@ -43,14 +43,14 @@ fn where_set<L: Level>(test: bool, x: L) -> L
 }
 
 // The weight of slot entry i with successor tensors, from s(i) and s(i - 1).
-fn stepped_weight<L: Level>(stepping: Stepping<L>, settled: L, before: L, i: usize) -> L
+fn stepped_weight<L: Level>(stepping: Stepping<L>, here: L, before: L, i: usize) -> L
     requires { ⌜ stepping .rows < 64 ⌝ }
-    ensures { λ r. ⌜ means r ≡ plus (plus (means settled) (where-set (not (starts (stepping .rows) i)) (arithmetic .times (means (stepping .challenge)) (means before)))) (where-set (ends (stepping .rows) i) (arithmetic .times (arithmetic .times (means (stepping .challenge)) (means (stepping .challenge))) (means settled))) ⌝ }
+    ensures { λ r. ⌜ means r ≡ plus (plus (means here) (where-set (not (starts (stepping .rows) i)) (arithmetic .times (means (stepping .challenge)) (means before)))) (where-set (ends (stepping .rows) i) (arithmetic .times (arithmetic .times (means (stepping .challenge)) (means (stepping .challenge))) (means here))) ⌝ }
 {
     let alpha = stepping.challenge;
     let carried = where_set(!starts_column(stepping.rows, i), alpha.mul(before));
-    let last = where_set(ends_column(stepping.rows, i), alpha.mul(alpha).mul(settled));
-    settled.add(carried).add(last)
+    let last = where_set(ends_column(stepping.rows, i), alpha.mul(alpha).mul(here));
+    here.add(carried).add(last)
 }
 
 // The weight of slot entry i: s(i), and with successor tensors also α·s(i - 1) unless i starts a column, and α²·s(i) if i ends one.
@@ -59,12 +59,12 @@ pub fn weight<L: Level>(batching: &[L], slot: &[L], stepping: Option<Stepping<L>
     requires rows { ⌜ Rows-within (steps means stepping) 63 ⌝ }
     ensures { λ r. ⌜ means r ≡ weight arithmetic (equality arithmetic (map means (now (batching .entry)))) (map means (now (slot .entry))) (steps means stepping) i ⌝ }
 {
-    let settled = settled_weight(batching, slot, i);
+    let here = settled_weight(batching, slot, i);
     match stepping {
-        None => settled,
+        None => here,
         Some(stepping) => {
             let before = settled_weight(batching, slot, i.saturating_sub(1));
-            stepped_weight(stepping, settled, before, i)
+            stepped_weight(stepping, here, before, i)
         }
     }
 }

@@ -4,7 +4,8 @@ ghost use mathlib.Core.List.{map};
 ghost use Prim.Native.Nat.{_+_, _-_, _*_, _^_, _<_, _≤_};
 ghost use lib.Dec.{ltb};
 ghost use lib.ListN.{length};
-ghost use Rattle.ring_switch.specs.Opening.{kept, limit, selects, run, prefix};
+ghost use Rattle.level.specs.Element.{width};
+ghost use Rattle.ring_switch.specs.Opening.{kept, limit, selects, run, prefix, rest, slot-start};
 ghost use Rattle.std.specs.declared.option.Option.the-variants.{Some, None};
 ghost use Rattle.std.specs.Options.{Cases};
 use level::level::Level;
@@ -84,6 +85,30 @@ pub fn fixed_prefix<L: Level>(point: &[L], view: Option<usize>) -> (usize, usize
     requires { ⌜ L·Level .log ≤ 7 ⌝ ∗ ⌜ length (now point) ≤ 64 ⌝ }
     ensures count { λ r. ⌜ r .0 ≡ prefix arithmetic (map means (now (point .entry))) view .count ⌝ }
     ensures address { λ r. ⌜ r .1 ≡ prefix arithmetic (map means (now (point .entry))) view .address ⌝ }
+    ensures within { λ r. ⌜ r .0 ≤ length (now (point .entry)) - L·Level .log ⌝ }
+    ensures bounded { λ r. ⌜ r .1 < 2 ^ r .0 ⌝ }
 {
     leading_run(&point[..prefix_limit::<L>(point.len(), view)])
+}
+
+// Where slots of 2^l packed elements begin that have the address.
+fn slot_begin(address: usize, l: usize) -> usize
+    requires { ⌜ l < 64 ⌝ ∗ ⌜ address * 2 ^ l < 2 ^ 64 ⌝ }
+    ensures { λ r. ⌜ r ≡ address * 2 ^ l ⌝ }
+{
+    address << l
+}
+
+// The slot of an opening: its first packed element, and its coordinates, which are the kept ones after the prefix.
+pub fn slot<L: Level>(point: &[L], view: Option<usize>) -> (usize, &[L])
+    requires { ⌜ L·Level .log ≤ 7 ⌝ ∗ ⌜ length (now point) < 64 ⌝ }
+    ensures start { λ r. ⌜ r .0 ≡ slot-start arithmetic (map means (now (point .entry))) view ⌝ }
+    ensures coordinates { λ r. ⌜ map means (now (r .1)) ≡ rest arithmetic (map means (now (point .entry))) view ⌝ }
+    ensures short { λ r. ⌜ length (now (r .1)) < 64 ⌝ }
+    ensures cells { λ r. ⌜ (r .0 + 2 ^ length (now (r .1))) * width (L·Level .log) ≤ 2 ^ 64 ⌝ }
+{
+    let (count, address) = fixed_prefix(point, view);
+    let high = point.len().saturating_sub(usize::from(L::log_width()));
+    let coordinates = &point[count..high];
+    (slot_begin(address, coordinates.len()), coordinates)
 }

@@ -6,15 +6,10 @@ use native.Mathlib.Nat.{mod-lt, zero-mul, one-mul, add-zero}
 use native.Mathlib.Numerals.{one-add}
 use lib.Pow.{pow-pos, split, shr-lt}
 use lib.Bits.{bitXor, xor-self, xor-zero-r, xor-assoc, xor-comm, xor-shifted, xor-shr, xor-mod, xor-block}
+use Rattle.level.proofs.Ands.{bit-cases}
 
 pub record Linear (f : ℕ → ℕ) : Type 0 where
   pub at-sum : (a b : ℕ) → f (bitXor a b) ≡ bitXor (f a) (f b)
-
--- what holds of 0 and of 1 holds of every bit
-pub bit-cases : (P : ℕ → Type 0) → P 0 → P 1 → (n : ℕ) → n < 2 → P n
-bit-cases P a b zero h = a
-bit-cases P a b (suc zero) h = b
-bit-cases P a b (suc (suc n)) h = absurd (omega arith)
 
 module _ {f : ℕ → ℕ} (lf : Linear f) where
   pub at-zero : f 0 ≡ 0

@@ -2,7 +2,6 @@ ghost use mathlib.Core.Path.{_≡_};
 ghost use Prim.Native.Nat.{ℕ, _^_, _<_};
 ghost use Rattle.refusals.specs.Refusals.{packing-refusal, ring-switch-refusal, refused};
 ghost use Rattle.refusals.specs.Steps.{told, Powers-of-two, packing, opening, width, batching, successor, weight, closing};
-ghost use Rattle.refusals.specs.Worked.{Worked};
 use crate::faults::BitPackingError;
 use crate::faults::BitRingSwitchError;
 use level::level::Level;
@@ -158,13 +157,6 @@ pub fn check_closing(expected: usize, actual: usize) -> Result<(), BitRingSwitch
 // The test for a power of two finds exactly the powers of two.
 pub fn powers_of_two_stand() -> u8
     ensures { λ _. ⌜ Powers-of-two ⌝ }
-{
-    0
-}
-
-// Worked refusals.
-pub fn worked_stands() -> u8
-    ensures { λ _. ⌜ Worked ⌝ }
 {
     0
 }

@@ -31,7 +31,7 @@ module _ {k : ℕ} where
   column-sum n e t v = gather-sum n v (λ w u. at-bit (coordinate (e w) u) (t w)) ∙ sum-same n _ _ (λ w h. gather-at-bit (e w) (t w) v)
 
   -- a test on an exterior product is a test on its first leg
-  where-exterior : (b : Bool) (x y : Element k) (u : ℕ) → where-set b (exterior x y u) ≡ exterior (where-set b x) y u
+  pub where-exterior : (b : Bool) (x y : Element k) (u : ℕ) → where-set b (exterior x y u) ≡ exterior (where-set b x) y u
   unfolding where-set
   where-exterior true x y u = refl
   where-exterior false x y u = sym (exterior-zeros y u)

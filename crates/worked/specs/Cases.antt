@@ -11,6 +11,7 @@ use Rattle.polynomial.specs.Polynomial.{polynomial}
 use Rattle.multilinear.specs.Cells.{cell, packed}
 use Rattle.multilinear.specs.Equality.{Point, equality}
 use Rattle.tensor_algebra.specs.Tensor.{Tensor}
+use Rattle.refusals.specs.Steps.{packing, opening}
 use Rattle.ring_switch.specs.Opening.{high, low, rest}
 use Rattle.ring_switch.specs.Claims.{tensor, carry, last, incoming, successor-claim}
 use Rattle.ring_switch.specs.Batching.{Stepping, weight, initial-sum, closing-value}
@@ -68,6 +69,10 @@ pub record Worked : Type 0 where
   pub tower-02-03 : (tower 3 .times (cut 3 0x02) (cut 3 0x03)) .number ≡ 0x01
   pub tower-10-10 : (tower 3 .times (cut 3 0x10) (cut 3 0x10)) .number ≡ 0x41
   pub polynomial-57-83 : (polynomial .times (cut 3 0x57) (cut 3 0x83)) .number ≡ 0xc1
+  pub no-bytes : packing 3 0 ≡ Some (record { number = 10; values = 0 ∷ [] })
+  pub no-bytes-at-a-bit : packing 0 0 ≡ Some (record { number = 9; values = 1 ∷ [] })
+  pub more-rows-than-coordinates : opening 3 2 (Some 3) ≡ Some (record { number = 13; values = 3 ∷ 2 ∷ [] })
+  pub fewer-coordinates-than-absorbed : opening 3 2 (Some 2) ≡ Some (record { number = 14; values = 3 ∷ 2 ∷ [] })
   pub incoming-at-coordinate-4 : incoming-of (0x10 ∷ []) (0x02 ∷ 0x00 ∷ 0x00 ∷ []) ≡ 0x02
   pub successor-one-row-variable : successor-of (0x02 ∷ []) (0x00 ∷ 0x00 ∷ 0x00 ∷ []) 1 ≡ 0x01
   pub successor-no-row-variable : successor-of (0x02 ∷ []) (0x00 ∷ 0x00 ∷ 0x00 ∷ []) 0 ≡ 0x00

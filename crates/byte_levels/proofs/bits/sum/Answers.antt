@@ -1,6 +1,6 @@
 use borrow.Author.Needs.{needs}
-use Rattle.byte_levels.proofs.Coordinates.{cut-plus}
+use Rattle.level.proofs.Elements.{cut-xor}
 use Rattle.byte_levels.proofs.bits.sum.Needs as need
 
 pub returns : need.returns
-returns c = search (needs, cut-plus)
+returns c = search (needs, cut-xor)

@@ -1,5 +1,4 @@
 use native.Mathlib.Omega.{arith}
-use borrow.Author.Needs.{needs}
 use Rattle.plain.proofs.Bits.{next-fits, successor-stays, successor-steps}
 use Rattle.plain.proofs.cells.successor_cell.Needs as need
 

@@ -1,4 +1,4 @@
-use mathlib.Core.Path.{_≡_, ap, sym, _∙_}
+use mathlib.Core.Path.{_≡_, ap, sym}
 use native.Mathlib.Omega.{arith}
 use Rattle.ring_switch.specs.Opening.{kept}
 use Rattle.plain.proofs.opening.kept_row_variables.Needs as need

@@ -1,4 +1,4 @@
-use mathlib.Core.Path.{_≡_, ap, sym, _∙_}
+use mathlib.Core.Path.{_≡_}
 use native.Mathlib.Omega.{arith}
 use Rattle.ring_switch.specs.Opening.{limit}
 use Rattle.plain.proofs.opening.prefix_limit.Needs as need

@@ -1,0 +1,1 @@
+// The reduction over lent memory: tensors block by block, claims, weights, the initial sum and the closing value.
