@@ -44,7 +44,7 @@ def texts(text):
     for number, line in enumerate(lines, 1):
         given = [(key, after(key, line)) for key in KEYS if after(key, line) is not None]
         if line and not given:
-            raise Unreadable(f"line {number} begins with no key")
+            raise Unreadable(f"line {number} has no key")
         for key, rest in given:
             found[key].append(rest)
     return found
@@ -52,39 +52,39 @@ def texts(text):
 
 def optional(found, key):
     if len(found[key]) > 1:
-        raise Unreadable(f"more than one line {key}")
+        raise Unreadable(f"there are several lines of {key}")
     return found[key][0] if found[key] else None
 
 
 def needed(found, key):
     text = optional(found, key)
     if text is None:
-        raise Unreadable(f"no line {key}")
+        raise Unreadable(f"there is no line of {key}")
     return text
 
 
 def number(text):
     if not (text.isascii() and text.isdigit() and int(text) < 1 << 64):
-        raise Unreadable("view: not a decimal number below 2^64")
+        raise Unreadable("the view is no decimal number below 2^64")
     return int(text)
 
 
 def check_digits(key, text, start, end):
     for at in range(start, end):
         if text[at] not in DIGITS:
-            raise Unreadable(f"{key}: character {at + 1} is no lower-case hexadecimal digit")
+            raise Unreadable(f"character {at + 1} of {key} is no lower-case hexadecimal digit")
 
 
 def hex_bytes(text):
     if len(text) % 2:
-        raise Unreadable("bits: an odd number of digits")
+        raise Unreadable("the last byte of bits has one digit alone")
     check_digits("bits", text, 0, len(text))
     return bytes.fromhex(text)
 
 
 def elements(key, size, text):
     digits = 2 * size
-    shape = Unreadable(f"{key}: not elements of {digits} digits with single spaces between them")
+    shape = Unreadable(f"{key} is not elements of {digits} digits with single spaces between them")
     if text == "":
         return []
     if len(text) % (digits + 1) != digits:
@@ -104,26 +104,27 @@ class Problem:
         found = texts(text)
         self.letter = needed(found, "level")
         if self.letter not in LEVELS:
-            raise Unreadable("level: not b, w, d, q or a")
+            raise Unreadable("the level is none of b, w, d, q and a")
         self.size, self.times = LEVELS[self.letter]
         self.k = (8 * self.size).bit_length() - 1
         bits, point = needed(found, "bits"), needed(found, "point")
         view = optional(found, "view")
         self.view = None if view is None else number(view)
         batching, challenge = optional(found, "batching"), optional(found, "challenge")
-        for key in ("challenge", "closing"):
-            if found[key] and batching is None:
-                raise Unreadable(f"{key} without batching")
+        if challenge is not None and batching is None:
+            raise Unreadable("there is a challenge without batching")
+        if found["closing"] and batching is None:
+            raise Unreadable("closing without batching")
         self.bits = hex_bytes(bits)
         if len(self.bits) > MOST_PACKED * self.size:
-            raise Unreadable("bits: more than 2^20 packed elements")
+            raise Unreadable("bits are more than 2^20 packed elements")
         self.point = elements("point", self.size, point)
         self.batching = None if batching is None else elements("batching", self.size, batching)
         self.challenge = None
         if challenge is not None:
             only = elements("challenge", self.size, challenge)
             if len(only) != 1:
-                raise Unreadable("challenge: not one element")
+                raise Unreadable("challenge is not one element")
             self.challenge = only[0]
         self.closings = [elements("closing", self.size, z) for z in found["closing"]]
 
@@ -310,20 +311,20 @@ WORKED = [
 ]
 
 UNREADABLE = [
-    (source(level="b", bits="00") + "points 00\n", "error: line 3 begins with no key"),
-    (source(level="b", bits="00"), "error: no line point"),
-    (source(level="b", bits="00", point="") + "view 1\nview 1\n", "error: more than one line view"),
-    (source(level="x", bits="00", point=""), "error: level: not b, w, d, q or a"),
-    (source(level="b", bits="00", point="", view="+1"), "error: view: not a decimal number below 2^64"),
-    (source(level="b", bits="00", point="", challenge="00"), "error: challenge without batching"),
+    (source(level="b", bits="00") + "points 00\n", "error: line 3 has no key"),
+    (source(level="b", bits="00"), "error: there is no line of point"),
+    (source(level="b", bits="00", point="") + "view 1\nview 1\n", "error: there are several lines of view"),
+    (source(level="x", bits="00", point=""), "error: the level is none of b, w, d, q and a"),
+    (source(level="b", bits="00", point="", view="+1"), "error: the view is no decimal number below 2^64"),
+    (source(level="b", bits="00", point="", challenge="00"), "error: there is a challenge without batching"),
     (source(level="b", bits="00", point="", closing=["00"]), "error: closing without batching"),
-    (source(level="b", bits="000", point=""), "error: bits: an odd number of digits"),
-    (source(level="b", bits="000G", point=""), "error: bits: character 4 is no lower-case hexadecimal digit"),
-    (source(level="b", bits="00", point="00  00"), "error: point: not elements of 2 digits with single spaces between them"),
-    (source(level="w", bits="00", point="0000 0q00"), "error: point: character 7 is no lower-case hexadecimal digit"),
-    (source(level="b", bits="00", point="", batching="0"), "error: batching: not elements of 2 digits with single spaces between them"),
-    (source(level="b", bits="00", point="", batching="", challenge="00 00"), "error: challenge: not one element"),
-    (source(level="b", bits="00", point="", batching="", closing=["00", "0x"]), "error: closing: character 2 is no lower-case hexadecimal digit"),
+    (source(level="b", bits="000", point=""), "error: the last byte of bits has one digit alone"),
+    (source(level="b", bits="000G", point=""), "error: character 4 of bits is no lower-case hexadecimal digit"),
+    (source(level="b", bits="00", point="00  00"), "error: point is not elements of 2 digits with single spaces between them"),
+    (source(level="w", bits="00", point="0000 0q00"), "error: character 7 of point is no lower-case hexadecimal digit"),
+    (source(level="b", bits="00", point="", batching="0"), "error: batching is not elements of 2 digits with single spaces between them"),
+    (source(level="b", bits="00", point="", batching="", challenge="00 00"), "error: challenge is not one element"),
+    (source(level="b", bits="00", point="", batching="", closing=["00", "0x"]), "error: character 2 of closing is no lower-case hexadecimal digit"),
 ]
 
 
