@@ -4,10 +4,12 @@
 The products are computed here from the definitions alone, in plain Python integers: the tower product by recursion on halves
 down to single bits, the polynomial product by multiplying and dividing polynomials. Nothing is taken from the Rattle code.
 """
+import functools
 import pathlib
 import random
 
 
+@functools.cache
 def tower(k, x, y):
     """The product of k doublings over the bit; coordinate u is bit u."""
     if k == 0:
@@ -107,4 +109,5 @@ def main():
     (folder / "stdout").write_text("".join(f"{answer}\n" for _, answer in cases))
 
 
-main()
+if __name__ == "__main__":
+    main()

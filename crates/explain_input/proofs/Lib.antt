@@ -1,5 +1,6 @@
-mod Words
+mod Prefixes
 mod Splitting
 mod Collecting
 mod Refusing
 mod Hexadecimal
+mod Joining

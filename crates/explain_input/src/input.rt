@@ -116,3 +116,41 @@ pub fn refusals_stand() -> u8
 {
     0
 }
+
+#[cfg(test)]
+mod tests {
+    use super::*;
+    use std::test::*;
+
+    #[test]
+    fn all_keys(rt: LibcRuntime) -> Result<(), Fail> {
+        let text =
+            b"point 00 01 01 01\nview 4\n\nlevel b\nbits 0001\nchallenge 02\nbatching 00 00 00\nclosing 01\nclosing\n";
+        let Ok(input) = read_input(rt.alloc(), text) else {
+            return Err(Fail::new("the input is refused"));
+        };
+        check(input.letter == 'b')?;
+        check(input.bits == b"0001")?;
+        check(input.point == b"00 01 01 01")?;
+        check(input.view == Some(4))?;
+        check(input.batching.is_some() && input.challenge.is_some())?;
+        check(input.closings.len() == 2)
+    }
+
+    #[test]
+    fn faults(rt: LibcRuntime) -> Result<(), Fail> {
+        let heap = rt.alloc();
+        check(matches!(
+            read_input(heap, b"level b\nbits\npoints 00\n"),
+            Err(InputFault::Line { number: 3 })
+        ))?;
+        check(matches!(
+            read_input(heap, b"level b\nbits\nbits \npoint"),
+            Err(InputFault::Twice { key: Key::Bits })
+        ))?;
+        check(matches!(
+            read_input(heap, b"level b\nbits"),
+            Err(InputFault::Missing { key: Key::Point })
+        ))
+    }
+}

@@ -1,8 +1,10 @@
 // The input of a program that explains an opening: lines of a key and a text, read into the parts that they give.
 // Lists of elements and bytes are read once the level is known.
 pub mod bytes;
+pub mod elements;
 pub mod fault;
 pub mod input;
 pub mod key;
-pub mod lines;
-pub mod number;
+mod lines;
+mod number;
+pub mod words;

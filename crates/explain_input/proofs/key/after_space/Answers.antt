@@ -5,7 +5,7 @@ use borrow.Author.Needs.{needs}
 use lib.ListN.{length, getD}
 use Rattle.std.proofs.shelf.Lists.{take-rest}
 use Rattle.std.specs.declared.option.Option.the-variants.{Some}
-use Rattle.explain_input.proofs.Words.{spaced-after}
+use Rattle.explain_input.proofs.Prefixes.{spaced-after}
 use Rattle.explain_input.proofs.key.after_space.Needs as need
 
 pub returns-in-32 : need.returns-in-32

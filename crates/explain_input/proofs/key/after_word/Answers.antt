@@ -5,7 +5,7 @@ use denote.Ref.{RefT, now}
 use Rattle.std.proofs.shelf.Equals.{strip-prefix-is}
 use Rattle.std.proofs.shelf.Results.{cases-at-some, cases-at-none}
 use Rattle.explain_input.specs.Keys.{after}
-use Rattle.explain_input.proofs.Words.{after-front, after-none}
+use Rattle.explain_input.proofs.Prefixes.{after-front, after-none}
 use Rattle.explain_input.proofs.key.after_word.Needs as need
 
 pub returns-in-Break-rest : need.returns-in-Break-rest
