@@ -3,3 +3,4 @@ pub mod Equality
 pub mod Gathered
 pub mod Cells
 pub mod Factored
+pub mod Lent
