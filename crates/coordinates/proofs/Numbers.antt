@@ -5,11 +5,16 @@ use Prim.Native.Nat.{ℕ, _+_, _*_, _%_, _^_, _<_, _≤_}
 use native.Mathlib.Omega.{arith}
 use native.Mathlib.Nat.{add-comm}
 use lib.Bits.{bitOr}
+use lib.Pow.{pow-mono}
 use Rattle.std.proofs.shelf.Bits.{one-shl, or-comm, or-shifted, shl-whole}
-use Rattle.level.specs.Element.{Element, cut}
+use Rattle.level.specs.Element.{Element, width, cut}
 use Rattle.level.specs.Bytes.{digits, le-number, sixteen, from-sixteen}
 use Rattle.level.proofs.Words.{le-sixteen, from-digits}
 use Rattle.tensor_algebra.specs.Subsets.{basis}
+
+-- a level of at most 128 coordinates has no others
+pub few : (k u : ℕ) → k ≤ 7 → u < width k → u < 128
+few k u h l = let narrow : 2 ^ k ≤ 2 ^ 7 = pow-mono h in omega arith
 
 module _ {k : ℕ} (narrow : k ≤ 7) where
   -- read from the bytes of an element

@@ -6,8 +6,8 @@ ghost use Rattle.level.specs.Element.{width};
 ghost use Rattle.multilinear.specs.Lent.{lent};
 ghost use Rattle.tensor_algebra.specs.Tensor.{nothing, one, exterior, add, column, scale-rows, scale-columns, equality-factor, batch-rows};
 ghost use Rattle.ring_switch.specs.Claims.{by-columns};
-use crate::columns;
-use crate::rows;
+use tensor_rows::columns;
+use tensor_rows::rows;
 use level::level::Level;
 
 // A tensor over lent rows: d elements, row u at place u.
@@ -27,6 +27,7 @@ impl<'a, L: Level> BitTensor<'a, L> {
     // Becomes the zero tensor.
     pub fn clear(&mut self)
         ensures same { λ _. ⌜ name (now (self .exit) .rows) ≡ name (now (self .entry) .rows) ⌝ }
+        ensures len { λ _. ⌜ length (now (now (self .exit) .rows)) ≡ length (now (now (self .entry) .rows)) ⌝ }
         ensures rows { λ _. ⌜ lent means (now (now (self .exit) .rows)) ≡ nothing ⌝ }
     {
         rows::clear(self.rows);
@@ -37,6 +38,7 @@ impl<'a, L: Level> BitTensor<'a, L> {
         requires narrow { ⌜ L·Level .log ≤ 7 ⌝ }
         requires rows { ⌜ length (now (now self .rows)) ≡ width (L·Level .log) ⌝ }
         ensures same { λ _. ⌜ name (now (self .exit) .rows) ≡ name (now (self .entry) .rows) ⌝ }
+        ensures len { λ _. ⌜ length (now (now (self .exit) .rows)) ≡ length (now (now (self .entry) .rows)) ⌝ }
         ensures rows { λ _. ⌜ lent means (now (now (self .exit) .rows)) ≡ one arithmetic ⌝ }
     {
         rows::set_one(self.rows);
@@ -47,6 +49,7 @@ impl<'a, L: Level> BitTensor<'a, L> {
         requires narrow { ⌜ L·Level .log ≤ 7 ⌝ }
         requires rows { ⌜ length (now (now self .rows)) ≡ width (L·Level .log) ⌝ }
         ensures same { λ _. ⌜ name (now (self .exit) .rows) ≡ name (now (self .entry) .rows) ⌝ }
+        ensures len { λ _. ⌜ length (now (now (self .exit) .rows)) ≡ length (now (now (self .entry) .rows)) ⌝ }
         ensures rows { λ _. ⌜ lent means (now (now (self .exit) .rows)) ≡ add (lent means (now (now (self .entry) .rows))) (exterior (means a) (means b)) ⌝ }
     {
         rows::add_exterior_product(self.rows, a, b);
@@ -56,6 +59,7 @@ impl<'a, L: Level> BitTensor<'a, L> {
     pub fn add(&mut self, other: &[L])
         requires { ⌜ length (now other) ≡ length (now (now self .rows)) ⌝ }
         ensures same { λ _. ⌜ name (now (self .exit) .rows) ≡ name (now (self .entry) .rows) ⌝ }
+        ensures len { λ _. ⌜ length (now (now (self .exit) .rows)) ≡ length (now (now (self .entry) .rows)) ⌝ }
         ensures rows { λ _. ⌜ lent means (now (now (self .exit) .rows)) ≡ add (lent means (now (now (self .entry) .rows))) (lent means (now (other .entry))) ⌝ }
     {
         rows::add(self.rows, other);
@@ -64,6 +68,7 @@ impl<'a, L: Level> BitTensor<'a, L> {
     // Multiplies every row by b: the product with one ⊗ b.
     pub fn scale_rows(&mut self, b: L)
         ensures same { λ _. ⌜ name (now (self .exit) .rows) ≡ name (now (self .entry) .rows) ⌝ }
+        ensures len { λ _. ⌜ length (now (now (self .exit) .rows)) ≡ length (now (now (self .entry) .rows)) ⌝ }
         ensures rows { λ _. ⌜ lent means (now (now (self .exit) .rows)) ≡ scale-rows arithmetic (means b) (lent means (now (now (self .entry) .rows))) ⌝ }
     {
         rows::scale_rows(self.rows, b);
@@ -75,6 +80,7 @@ impl<'a, L: Level> BitTensor<'a, L> {
         requires rows { ⌜ length (now (now self .rows)) ≡ width (L·Level .log) ⌝ }
         requires other { ⌜ length (now other) ≡ width (L·Level .log) ⌝ }
         ensures same { λ _. ⌜ name (now (self .exit) .rows) ≡ name (now (self .entry) .rows) ⌝ }
+        ensures len { λ _. ⌜ length (now (now (self .exit) .rows)) ≡ length (now (now (self .entry) .rows)) ⌝ }
         ensures rows { λ _. ⌜ lent means (now (now (self .exit) .rows)) ≡ add (lent means (now (now (self .entry) .rows))) (scale-columns arithmetic (means a) (lent means (now (other .entry)))) ⌝ }
     {
         columns::add_scaled_columns(self.rows, other, a);
@@ -86,6 +92,7 @@ impl<'a, L: Level> BitTensor<'a, L> {
         requires rows { ⌜ length (now (now self .rows)) ≡ width (L·Level .log) ⌝ }
         requires scratch { ⌜ length (now scratch) ≡ width (L·Level .log) ⌝ }
         ensures same { λ _. ⌜ name (now (self .exit) .rows) ≡ name (now (self .entry) .rows) ⌝ }
+        ensures len { λ _. ⌜ length (now (now (self .exit) .rows)) ≡ length (now (now (self .entry) .rows)) ⌝ }
         ensures rows { λ _. ⌜ lent means (now (now (self .exit) .rows)) ≡ scale-columns arithmetic (means a) (lent means (now (now (self .entry) .rows))) ⌝ }
         ensures scratch { λ _. ⌜ lent means (now (scratch .exit)) ≡ nothing ⌝ }
     {
@@ -98,6 +105,7 @@ impl<'a, L: Level> BitTensor<'a, L> {
         requires rows { ⌜ length (now (now self .rows)) ≡ width (L·Level .log) ⌝ }
         requires scratch { ⌜ length (now scratch) ≡ width (L·Level .log) ⌝ }
         ensures same { λ _. ⌜ name (now (self .exit) .rows) ≡ name (now (self .entry) .rows) ⌝ }
+        ensures len { λ _. ⌜ length (now (now (self .exit) .rows)) ≡ length (now (now (self .entry) .rows)) ⌝ }
         ensures rows { λ _. ⌜ lent means (now (now (self .exit) .rows)) ≡ equality-factor arithmetic (means a) (means b) (lent means (now (now (self .entry) .rows))) ⌝ }
         ensures scratch { λ _. ⌜ lent means (now (scratch .exit)) ≡ nothing ⌝ }
     {

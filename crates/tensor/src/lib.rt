@@ -1,5 +1,5 @@
-// Tensors of a level over lent rows: sums of exterior products, scalings of rows and columns, and what claims read off.
-// The loops are functions over slices of d rows, d the level's width; `BitTensor` has them as methods.
+// A tensor of a level over lent rows, `BitTensor`, and the tensors of two points: equality factors, the equality element and the
+// successor element. Scratch is lent too: d elements, d the level's width, which are left zero.
 pub mod bit_tensor;
-pub mod columns;
-pub mod rows;
+pub mod equality;
+pub mod successor;

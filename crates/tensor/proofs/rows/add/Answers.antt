@@ -1,9 +1,0 @@
-use borrow.Author.Needs.{needs}
-use Rattle.tensor.proofs.Turns.{added-more, added-all}
-use Rattle.tensor.proofs.rows.add.Needs as need
-
-pub loop-u-again : need.loop-u-again
-loop-u-again g c = search (needs, added-more)
-
-pub returns : need.returns
-returns g c = search (needs, added-all)
