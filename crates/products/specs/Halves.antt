@@ -36,6 +36,6 @@ pub record Byte-read {k : ℕ} (j : ℕ) (before after rows-before rows-after : 
   pub buckets : (s : ℕ) → s < 256 → after (256 * j + s) ≡ halvings 8 (of-byte j before) s
   pub other-buckets : (i : ℕ) → (i < 256 * j) ⊎ (256 * j + 256 ≤ i) → after i ≡ before i
 
--- the buckets of every byte are halved eight times
+-- the buckets of each byte j are its table f(j), halved eight times
 abbrev pub All-halved : {k : ℕ} → (ℕ → ℕ → Element k) → (ℕ → Element k) → Type 0
-All-halved {k} bucket held = (j s : ℕ) → j < bytes k → s < 256 → held (256 * j + s) ≡ halvings 8 (bucket j) s
+All-halved {k} f held = (j s : ℕ) → j < bytes k → s < 256 → held (256 * j + s) ≡ halvings 8 (f j) s

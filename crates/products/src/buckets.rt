@@ -15,6 +15,7 @@ use level::level::Level;
 //
 // Row u of a sum of a(w) ⊗ b(w) takes b(w) for each w with coordinate u of a(w) set: half of the rows on average. Gathered by whole
 // bytes, a term is added once for each byte, and a row is the sum of the buckets whose value has its bit set.
+#[derive(Drop)]
 pub struct BitTensorBuckets<'a, L> {
     // 256 buckets for each byte, those of byte j from 256·j on
     buckets: &'a mut [L],
@@ -32,13 +33,15 @@ impl<'a, L: Level> BitTensorBuckets<'a, L> {
     // Forgets every term.
     pub fn clear(&mut self)
         ensures same { λ _. ⌜ name (now (self .exit) .buckets) ≡ name (now (self .entry) .buckets) ⌝ }
-        ensures cleared { λ _. ⌜ Empty (lent means (now (now (self .exit) .buckets))) ⌝ }
+        ensures empty { λ _. ⌜ Empty (lent means (now (now (self .exit) .buckets))) ⌝ }
+        ensures bucketed { λ _. ⌜ ((a b : ℕ → Element (L·Level .log)) → Bucketed a b 0 (lent means (now (now (self .exit) .buckets)))) ⌝ }
     {
         empty_all(self.buckets);
     }
 
     // Adds a ⊗ b: one addition for each byte.
     pub fn add_exterior_product(&mut self, a: L, b: L)
+        requires wide { ⌜ 3 ≤ L·Level .log ⌝ }
         requires narrow { ⌜ L·Level .log ≤ 7 ⌝ }
         requires buckets { ⌜ length (now (now self .buckets)) ≡ 256 * bytes (L·Level .log) ⌝ }
         ensures same { λ _. ⌜ name (now (self .exit) .buckets) ≡ name (now (self .entry) .buckets) ⌝ }

@@ -27,6 +27,7 @@ fn sum_terms<L: Level>(left: &[L], right: &[L], buckets: &mut [L], rows: &mut [L
 }
 
 // Left factors that are read against many blocks of right factors, each block summed on its own.
+#[derive(Drop)]
 pub struct LeftFactors<'a, L> {
     left: &'a [L],
 }

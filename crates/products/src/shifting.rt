@@ -7,20 +7,12 @@ ghost use Rattle.multilinear.specs.Sums.{where-set};
 ghost use Rattle.ring_switch.specs.Claims.{starts};
 use level::level::Level;
 
-// How many entries a column of `rows` row variables has.
-fn column_length(rows: usize) -> usize
-    requires { ⌜ rows < 64 ⌝ }
-    ensures { λ n. ⌜ n ≡ 2 ^ rows ⌝ }
-{
-    1 << rows
-}
-
-// Whether entry j starts a column.
+// Whether entry j starts a column of 2^rows entries.
 fn starts_column(rows: usize, j: usize) -> bool
     requires { ⌜ rows < 64 ⌝ }
     ensures { λ b. ⌜ b ≡ starts rows j ⌝ }
 {
-    j % column_length(rows) == 0
+    j % (1 << rows) == 0
 }
 
 // The entry before j in its column, zero where j starts one.
