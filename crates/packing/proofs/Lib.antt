@@ -1,0 +1,2 @@
+pub mod Elements_of_bytes
+pub mod Elements_written
