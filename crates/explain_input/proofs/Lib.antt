@@ -2,5 +2,3 @@ mod Prefixes
 mod Splitting
 mod Collecting
 mod Refusing
-mod Hexadecimal
-mod Joining

@@ -1,6 +1,4 @@
 pub mod Keys
 pub mod Values
 pub mod Inputs
-pub mod Bytes
-pub mod Elements
 pub mod Messages

@@ -123,18 +123,14 @@ mod tests {
     use std::test::*;
 
     #[test]
-    fn all_keys(rt: LibcRuntime) -> Result<(), Fail> {
-        let text =
-            b"point 00 01 01 01\nview 4\n\nlevel b\nbits 0001\nchallenge 02\nbatching 00 00 00\nclosing 01\nclosing\n";
-        let Ok(input) = read_input(rt.alloc(), text) else {
-            return Err(Fail::new("the input is refused"));
-        };
-        check(input.letter == 'b')?;
-        check(input.bits == b"0001")?;
-        check(input.point == b"00 01 01 01")?;
-        check(input.view == Some(4))?;
-        check(input.batching.is_some() && input.challenge.is_some())?;
-        check(input.closings.len() == 2)
+    fn any_order(rt: LibcRuntime) -> Result<(), Fail> {
+        let text = b"point 00 01 01 01\nview 4\n\nlevel b\nclosing 01\nbits 0001\nclosing\n";
+        match read_input(rt.alloc(), text) {
+            Ok(input) => check(
+                input.letter == 'b' && input.view == Some(4) && input.closings.len() == 2,
+            ),
+            Err(_) => Err(Fail::new("the input is refused")),
+        }
     }
 
     #[test]

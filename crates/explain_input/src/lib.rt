@@ -1,7 +1,4 @@
 // The input of a program that explains an opening: lines of a key and a text, read into the parts that they give.
-// Lists of elements and bytes are read once the level is known.
-pub mod bytes;
-pub mod elements;
 pub mod fault;
 pub mod input;
 pub mod key;
