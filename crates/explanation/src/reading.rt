@@ -1,9 +1,9 @@
 use crate::problem::Problem;
 use element_text::element::byte_count;
-use explain_input::bytes::BytesFault;
-use explain_input::bytes::parse_hex_bytes;
-use explain_input::elements::ElementsFault;
-use explain_input::elements::parse_elements;
+use element_lists::bytes::BytesFault;
+use element_lists::bytes::parse_hex_bytes;
+use element_lists::elements::ElementsFault;
+use element_lists::elements::parse_elements;
 use explain_input::input::Input;
 use explain_input::key::Key;
 use level::level::Level;
