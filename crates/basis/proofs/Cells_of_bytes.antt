@@ -1,24 +1,23 @@
 -- The cells of an element's bytes, one of them set, and the element that they make.
-use mathlib.Core.Path.{_≡_, refl, sym, ap, ap₂, _∙_}
+use mathlib.Core.Path.{_≡_, refl, sym, ap, _∙_}
 use mathlib.Core.List.{List}
 use mathlib.Core.Logic.{⊎-elim}
-use Prim.Native.Nat.{ℕ, zero, suc, _+_, _*_, _/_, _%_, _^_, _<_, _≤_}
+use Prim.Native.Nat.{ℕ, _+_, _*_, _/_, _%_, _^_, _<_}
 use native.Mathlib.Omega.{arith}
-use native.Mathlib.Nat.{zero-div, mod-eq-of-lt, mod-mod}
+use native.Mathlib.Nat.{zero-div}
 use lib.Bits.{bitOr, or-shr, or-mod, or-zero-r}
 use lib.ListN.{length, getD, set, replicate}
 use Rattle.std.proofs.shelf.Lists.{getD-set-same, getD-set-other, getD-replicate, getD-past, length-replicate}
 use Rattle.std.proofs.shelf.Tests.{cases-eq, cases-lt}
-use Rattle.level.specs.Element.{Element, width, coordinate, cut}
+use Rattle.level.specs.Element.{Element, width, coordinate}
 use Rattle.level.specs.Bytes.{sixteen, from-sixteen, Octets}
 use Rattle.level.proofs.Ands.{bit-cases}
 use Rattle.level.proofs.Digits.{low-bit, bytes-are-coordinates}
 use Rattle.level.proofs.Elements.{cut-is}
 use Rattle.multilinear.specs.Cells.{cell, gather}
-use Rattle.multilinear.proofs.Coordinates.{by-coordinates, coordinate-gather, gather-coordinates}
+use Rattle.multilinear.proofs.Coordinates.{by-coordinates, gather-coordinates}
 use Rattle.tensor_algebra.specs.Subsets.{basis}
 use Rattle.tensor_algebra.proofs.Basis.{power-digit-same, power-digit-other}
-use Rattle.basis.specs.Coordinates.{Bytes-are-cells}
 
 -- coordinate u by its byte and its bit
 whole : (u : ℕ) → 8 * (u / 8) + u % 8 ≡ u
@@ -47,9 +46,6 @@ cell-binary bs u = omega arith
 
 pub made-cells : (k : ℕ) (bs : List ℕ) → Octets bs → from-sixteen k bs ≡ gather k (cell bs)
 made-cells k bs o = sym (gather-coordinates (from-sixteen k bs) (cell bs) (λ u h. cell-binary bs u ∙ sym (coordinate-made k bs o u h)))
-
-pub bytes-are-cells : Bytes-are-cells
-bytes-are-cells = record { none = cell-none 16; shown = cell-shown; made = made-cells }
 
 -- a byte with one bit set
 or-digit : (n b c : ℕ) → bitOr n (2 ^ b) / 2 ^ c % 2 ≡ bitOr (n / 2 ^ c % 2) (2 ^ b / 2 ^ c % 2)

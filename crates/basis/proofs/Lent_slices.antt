@@ -11,11 +11,8 @@ use Rattle.level.specs.Element.{Element, zeros}
 use Rattle.multilinear.specs.Lent.{lent}
 
 module _ {X : Type 0} {k : ℕ} (means : X → Element k) (xs : List X) (i : ℕ) where
-  pub lent-at : (x : X) → i < length xs → means (getD xs i x) ≡ lent means xs i
-  lent-at x h = sym (getD-map means xs i x (zeros k) h)
-
   pub lent-read : (x : X) → i < length xs → x ≡ getD xs i x → means x ≡ lent means xs i
-  lent-read x h e = ap means e ∙ lent-at x h
+  lent-read x h e = ap means e ∙ sym (getD-map means xs i x (zeros k) h)
 
   pub lent-past : length xs ≤ i → lent means xs i ≡ zeros k
   lent-past h = getD-past (map means xs) i (zeros k) (rw length-map h)

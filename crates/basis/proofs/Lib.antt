@@ -1,3 +1,4 @@
 pub mod Cells_of_bytes
 pub mod Lent_slices
-pub mod Byte_tables
+pub mod Completed_tables
+pub mod Looked_up_sums

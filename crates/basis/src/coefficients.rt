@@ -1,12 +1,13 @@
 ghost use mathlib.Core.Path.{_≡_};
-ghost use Prim.Native.Nat.{ℕ, _/_, _%_, _^_, _<_, _≤_};
+ghost use mathlib.Core.List.{List};
+ghost use Prim.Native.Nat.{ℕ, _/_, _%_, _^_, _<_};
 ghost use lib.Bits.{bitOr};
 ghost use lib.Dec.{eqb};
 ghost use lib.ListN.{getD, replicate};
+ghost use Rattle.level.specs.Element.{Element, coordinate};
 ghost use Rattle.level.specs.Bytes.{sixteen, from-sixteen, Octets};
-ghost use Rattle.multilinear.specs.Cells.{cell};
+ghost use Rattle.multilinear.specs.Cells.{cell, gather};
 ghost use Rattle.tensor_algebra.specs.Subsets.{basis};
-ghost use Rattle.basis.specs.Coordinates.{Bytes-are-cells};
 use level::level::Level;
 
 // The first 128 coordinates of an element: coordinate u is bit u mod 8, least first, of byte u div 8.
@@ -82,19 +83,29 @@ impl Coefficients {
     }
 }
 
+// One coordinate set.
+fn single(coordinate: usize) -> Coefficients
+    requires { ⌜ coordinate < 128 ⌝ }
+    ensures { λ r. ⌜ ((k : ℕ) → from-sixteen k (r .bytes) ≡ basis k coordinate) ⌝ }
+{
+    let mut coordinates = Coefficients::zero();
+    coordinates.set(coordinate);
+    coordinates
+}
+
 // The element of which one coordinate alone is set, and zero past the width.
 pub fn basis_element<L: Level>(coordinate: usize) -> L
     requires { ⌜ coordinate < 128 ⌝ }
     ensures { λ r. ⌜ means r ≡ basis (L·Level .log) coordinate ⌝ }
 {
-    let mut coordinates = Coefficients::zero();
-    coordinates.set(coordinate);
-    coordinates.element()
+    single(coordinate).element()
 }
 
-// The bytes of coefficients, coordinate by coordinate: cell u of the bytes is coordinate u.
+// Coordinates are the cells of their bytes: those of zero, of an element, and of the element that bytes make.
 pub fn coordinates_stand() -> u8
-    ensures { λ _. ⌜ Bytes-are-cells ⌝ }
+    ensures none { λ _. ⌜ ((u : ℕ) → cell (replicate 16 0) u ≡ 0) ⌝ }
+    ensures shown { λ _. ⌜ ((k : ℕ) (x : Element k) (u : ℕ) → u < 128 → cell (sixteen x) u ≡ coordinate x u) ⌝ }
+    ensures made { λ _. ⌜ ((k : ℕ) (bytes : List ℕ) → Octets bytes → from-sixteen k bytes ≡ gather k (cell bytes)) ⌝ }
 {
     0
 }

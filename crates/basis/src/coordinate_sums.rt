@@ -1,5 +1,5 @@
 ghost use mathlib.Core.Path.{_≡_};
-ghost use Prim.Native.Nat.{ℕ, _+_, _-_, _*_, _/_, _%_, _^_, _<_, _≤_};
+ghost use Prim.Native.Nat.{ℕ, _+_, _-_, _*_, _^_, _<_, _≤_};
 ghost use lib.Bits.{bitAnd};
 ghost use lib.Count.{trailingZeros};
 ghost use lib.ListN.{length};
@@ -12,6 +12,14 @@ use crate::coefficients::basis_element;
 use crate::width::num_bytes;
 use level::level::Level;
 
+// An element of a slice.
+fn element_at<L: Level>(elements: &[L], i: usize) -> L
+    requires { ⌜ i < length (now elements) ⌝ }
+    ensures { λ r. ⌜ means r ≡ lent means (now (elements .entry)) i ⌝ }
+{
+    elements[i]
+}
+
 // The subset without its lowest coordinate.
 fn without_lowest(subset: usize) -> usize
     requires { ⌜ 0 < subset ⌝ }
@@ -23,7 +31,8 @@ fn without_lowest(subset: usize) -> usize
 // The lowest coordinate of a subset, alone.
 fn lowest(subset: usize) -> usize
     requires { ⌜ 0 < subset ⌝ ∗ ⌜ subset < 256 ⌝ }
-    ensures { λ r. ⌜ r ≡ 2 ^ trailingZeros 64 subset ⌝ }
+    ensures power { λ r. ⌜ r ≡ 2 ^ trailingZeros 64 subset ⌝ }
+    ensures within { λ r. ⌜ r ≤ subset ⌝ }
 {
     1 << subset.trailing_zeros()
 }
@@ -34,7 +43,8 @@ fn extended<L: Level>(tables: &[L], start: usize, subset: usize) -> L
     requires whole { ⌜ start + 256 ≤ length (now tables) ⌝ }
     ensures { λ r. ⌜ means r ≡ plus (lent means (now (tables .entry)) (start + bitAnd subset (subset - 1))) (lent means (now (tables .entry)) (start + 2 ^ trailingZeros 64 subset)) ⌝ }
 {
-    tables[start + without_lowest(subset)].add(tables[start + lowest(subset)])
+    let rest = element_at(tables, start + without_lowest(subset));
+    rest.add(element_at(tables, start + lowest(subset)))
 }
 
 // Tabulates the sums of one byte position, from the weights of its coordinates at their places.
@@ -73,7 +83,7 @@ fn weight_at<L: Level>(weights: &[L], coordinate: usize) -> L
     ensures { λ r. ⌜ means r ≡ lent means (now (weights .entry)) coordinate ⌝ }
 {
     if coordinate < weights.len() {
-        weights[coordinate]
+        element_at(weights, coordinate)
     } else {
         L::zero()
     }
@@ -93,7 +103,7 @@ pub fn tabulate<L: Level>(tables: &mut [L], weights: &[L])
 }
 
 // The sums of one weight for each coordinate that an element has set, in lent tables.
-#[derive(Clone, Copy)]
+#[derive(Drop)]
 pub struct CoordinateSums<'a, L> {
     tables: &'a [L],
 }
@@ -124,12 +134,22 @@ impl<'a, L: Level> CoordinateSums<'a, L> {
         let bytes = value.to_bytes();
         let mut sum = L::zero();
         for position in 0..num_bytes::<L>() {
-            sum = sum.add(self.tables[place(position, bytes[position])]);
+            sum = sum.add(element_at(self.tables, place(position, bytes[position])));
         }
         sum
     }
 
-    // Writes the sum of each input.
+    // The sum for one element of a slice.
+    fn sum_at(&self, input: &[L], i: usize) -> L
+        requires narrow { ⌜ L·Level .log ≤ 7 ⌝ }
+        requires sized { ⌜ length (now (now self .tables)) ≡ 256 * num-bytes (L·Level .log) ⌝ }
+        requires within { ⌜ i < length (now input) ⌝ }
+        ensures { λ r. ⌜ means r ≡ looked-up (lent means (now (now (self .entry) .tables))) (lent means (now (input .entry)) i) ⌝ }
+    {
+        self.sum(element_at(input, i))
+    }
+
+    // Writes the sum for each element of the input.
     pub fn apply_into(&self, input: &[L], output: &mut [L])
         requires narrow { ⌜ L·Level .log ≤ 7 ⌝ }
         requires sized { ⌜ length (now (now self .tables)) ≡ 256 * num-bytes (L·Level .log) ⌝ }
@@ -138,11 +158,11 @@ impl<'a, L: Level> CoordinateSums<'a, L> {
         ensures weights { λ _. ⌜ ((f : ℕ → Element (L·Level .log)) → Tabulated f (lent means (now (now (self .entry) .tables))) → (i : ℕ) → i < length (now (input .entry)) → lent means (now (output .exit)) i ≡ subset-sum f (lent means (now (input .entry)) i)) ⌝ }
     {
         for i in 0..input.len() {
-            output[i] = self.sum(input[i]);
+            output[i] = self.sum_at(input, i);
         }
     }
 
-    // The sum for one scaled basis element.
+    // The sum for a scaled basis element.
     fn scaled_weight(&self, scale: L, coordinate: usize) -> L
         requires narrow { ⌜ L·Level .log ≤ 7 ⌝ }
         requires sized { ⌜ length (now (now self .tables)) ≡ 256 * num-bytes (L·Level .log) ⌝ }
@@ -157,7 +177,7 @@ impl<'a, L: Level> CoordinateSums<'a, L> {
 pub fn scaled_sums_into<L: Level>(out: &mut [L], sums: &CoordinateSums<'_, L>, scale: L)
     requires narrow { ⌜ L·Level .log ≤ 7 ⌝ }
     requires sized { ⌜ length (now out) ≡ 256 * num-bytes (L·Level .log) ⌝ }
-    requires sums { ⌜ length (now (now sums .tables)) ≡ 256 * num-bytes (L·Level .log) ⌝ }
+    requires source { ⌜ length (now (now sums .tables)) ≡ 256 * num-bytes (L·Level .log) ⌝ }
     ensures weights { λ _. ⌜ ((f : ℕ → Element (L·Level .log)) → Tabulated f (lent means (now (now (sums .entry) .tables))) → Tabulated (scaled arithmetic f (means scale)) (lent means (now (out .exit)))) ⌝ }
     ensures entries { λ _. ⌜ ((f : ℕ → Element (L·Level .log)) → Tabulated f (lent means (now (now (sums .entry) .tables))) → (x : Element (L·Level .log)) → looked-up (lent means (now (out .exit))) x ≡ looked-up (lent means (now (now (sums .entry) .tables))) (arithmetic .times (means scale) x)) ⌝ }
 {

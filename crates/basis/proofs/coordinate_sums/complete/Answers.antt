@@ -1,5 +1,5 @@
 use native.Mathlib.Omega.{arith}
-use Rattle.basis.proofs.Byte_tables.{completed-none, completed-more, completed-all}
+use Rattle.basis.proofs.Completed_tables.{completed-none, completed-more, completed-all}
 use Rattle.basis.proofs.coordinate_sums.complete.Needs as need
 
 pub loop-position-holds : need.loop-position-holds

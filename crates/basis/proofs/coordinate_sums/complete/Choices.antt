@@ -1,5 +1,5 @@
 use Rattle.multilinear.specs.Lent.{lent}
-use Rattle.basis.proofs.Byte_tables.{Completed-below}
+use Rattle.basis.proofs.Completed_tables.{Completed-below}
 use Rattle.basis.proofs.coordinate_sums.complete.Given as given
 
 abbrev pub Inv-loop-position : given.InvT-loop-position

@@ -1,10 +1,10 @@
 use mathlib.Core.Path.{_∙_}
 use Prim.Native.Nat.{_+_, _*_, _<_}
 use native.Mathlib.Omega.{arith}
-use lib.ListN.{length, set, length-set}
+use lib.ListN.{length, length-set}
 use Rattle.multilinear.specs.Lent.{lent}
 use Rattle.basis.proofs.Lent_slices.{lent-same, lent-other}
-use Rattle.basis.proofs.Byte_tables.{begun-none, begun-more, begun-all}
+use Rattle.basis.proofs.Completed_tables.{begun-none, begun-more, begun-all}
 use Rattle.basis.proofs.coordinate_sums.complete_position.Needs as need
 
 pub loop-subset-holds : need.loop-subset-holds

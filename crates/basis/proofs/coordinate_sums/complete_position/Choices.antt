@@ -1,5 +1,5 @@
 use Rattle.multilinear.specs.Lent.{lent}
-use Rattle.basis.proofs.Byte_tables.{Begun}
+use Rattle.basis.proofs.Completed_tables.{Begun}
 use Rattle.basis.proofs.coordinate_sums.complete_position.Given as given
 
 abbrev pub Inv-loop-subset : given.InvT-loop-subset

@@ -1,10 +1,10 @@
 use native.Mathlib.Omega.{arith}
 use denote.Ref.{now}
-use Rattle.level.specs.Element.{Element}
 use Rattle.multilinear.specs.Lent.{lent}
 use Rattle.tensor_algebra.specs.Subsets.{basis}
-use Rattle.basis.specs.Tables.{Tabulated, looked-up, scaled}
-use Rattle.basis.proofs.Byte_tables.{lone-within, placed-more, placed-all, scaled-weights, scaled-sums}
+use Rattle.basis.specs.Tables.{Tabulated, looked-up}
+use Rattle.basis.proofs.Completed_tables.{lone-within, placed-more, placed-all}
+use Rattle.basis.proofs.Looked_up_sums.{scaled-weights, scaled-sums}
 use Rattle.basis.proofs.coordinate_sums.scaled_sums_into.Needs as need
 
 pub loop-coordinate-again : need.loop-coordinate-again

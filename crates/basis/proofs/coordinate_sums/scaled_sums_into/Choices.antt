@@ -2,7 +2,7 @@ use denote.Ref.{now}
 use Rattle.multilinear.specs.Lent.{lent}
 use Rattle.tensor_algebra.specs.Subsets.{basis}
 use Rattle.basis.specs.Tables.{looked-up}
-use Rattle.basis.proofs.Byte_tables.{Placed}
+use Rattle.basis.proofs.Completed_tables.{Placed}
 use Rattle.basis.proofs.coordinate_sums.scaled_sums_into.Given as given
 
 abbrev pub Inv-loop-coordinate : given.InvT-loop-coordinate

@@ -1,6 +1,6 @@
 use native.Mathlib.Omega.{arith}
 use Rattle.multilinear.specs.Lent.{lent}
-use Rattle.basis.proofs.Byte_tables.{lone-within, placed-more, placed-all}
+use Rattle.basis.proofs.Completed_tables.{lone-within, placed-more, placed-all}
 use Rattle.basis.proofs.coordinate_sums.tabulate.Needs as need
 
 pub loop-coordinate-again : need.loop-coordinate-again

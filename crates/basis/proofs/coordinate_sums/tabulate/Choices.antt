@@ -1,5 +1,5 @@
 use Rattle.multilinear.specs.Lent.{lent}
-use Rattle.basis.proofs.Byte_tables.{Placed}
+use Rattle.basis.proofs.Completed_tables.{Placed}
 use Rattle.basis.proofs.coordinate_sums.tabulate.Given as given
 
 abbrev pub Inv-loop-coordinate : given.InvT-loop-coordinate

@@ -1,10 +1,6 @@
 use mathlib.Core.Path.{sym, _∙_}
-use Rattle.basis.proofs.Lent_slices.{lent-read, lent-past}
+use Rattle.basis.proofs.Lent_slices.{lent-past}
 use Rattle.basis.proofs.coordinate_sums.weight_at.Needs as need
-
-pub returns-then-coordinate-weights : need.returns-then-coordinate-weights
-returns-then-coordinate-weights g c =
-    lent-read (g .L·Level .means) (c .args .weights .now) (c .args .coordinate) _ (c .if-coordinate-weights .taken) (c .index-weights-coordinate .is)
 
 pub returns-else-coordinate-weights : need.returns-else-coordinate-weights
 returns-else-coordinate-weights g c =

@@ -1,20 +1,17 @@
-use mathlib.Core.Path.{ap, _∙_}
+use mathlib.Core.Path.{_∙_}
 use native.Mathlib.Omega.{arith}
 use denote.Ref.{now}
 use Rattle.multilinear.specs.Lent.{lent}
 use Rattle.basis.specs.Tables.{looked-up}
-use Rattle.basis.proofs.Lent_slices.{lent-read, written-more}
-use Rattle.basis.proofs.Byte_tables.{tabulated-sum}
+use Rattle.basis.proofs.Lent_slices.{written-more}
+use Rattle.basis.proofs.Looked_up_sums.{tabulated-sum}
 use Rattle.basis.proofs.coordinate_sums.CoordinateSums.apply_into.Needs as need
 
 pub loop-i-again : need.loop-i-again
 loop-i-again g c =
     let m = g .L·Level in
-    let i = c .loop-i .i in
-    let tables = lent (m .means) (now (c .args .self .now .tables)) in
-    let input = c .args .input .now in
-    written-more (m .means) (λ j. looked-up tables (lent (m .means) input j)) (c .loop-i .output) i _ (omega arith) (c .loop-i .inv)
-    (c .sum .ensures .entries ∙ ap (looked-up tables) (lent-read (m .means) input i _ (c .loop-i-test .taken) (c .index-input-i .is)))
+    written-more (m .means) (λ i. looked-up (lent (m .means) (now (c .args .self .now .tables))) (lent (m .means) (c .args .input .now) i)) (c .loop-i .output)
+    (c .loop-i .i) _ (omega arith) (c .loop-i .inv) (c .sum-at .ensures)
 
 pub returns : need.returns
 returns g c =

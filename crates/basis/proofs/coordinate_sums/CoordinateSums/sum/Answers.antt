@@ -1,12 +1,9 @@
-use mathlib.Core.Path.{_≡_, sym, _∙_}
-use Prim.Native.Nat.{_<_}
+use mathlib.Core.Path.{_≡_, _∙_}
 use native.Mathlib.Omega.{arith}
-use lib.ListN.{length}
 use denote.Ref.{now}
 use Rattle.multilinear.specs.Lent.{lent}
 use Rattle.basis.specs.Tables.{looked-up}
-use Rattle.basis.proofs.Lent_slices.{lent-at}
-use Rattle.basis.proofs.Byte_tables.{looked-none, looked-more, looked-all, tabulated-sum}
+use Rattle.basis.proofs.Looked_up_sums.{looked-none, looked-more, looked-all, tabulated-sum}
 use Rattle.basis.proofs.coordinate_sums.CoordinateSums.sum.Needs as need
 
 pub loop-position-holds : need.loop-position-holds
@@ -15,11 +12,8 @@ loop-position-holds g c =
 
 pub loop-position-again : need.loop-position-again
 loop-position-again g c =
-    let m = g .L·Level in
-    let xs = now (c .args .self .now .tables) in
-    let at : c .place .result < length xs = omega arith in
-    looked-more (lent (m .means) xs) (c .to-bytes-bytes .result) (c .loop-position .position) (c .place .result) _ _ _ (c .loop-position .inv) (c .place .ensures)
-    (lent-at (m .means) xs (c .place .result) (c .index-self-place .result) at) (c .add-sum .ensures)
+    looked-more (lent (g .L·Level .means) (now (c .args .self .now .tables))) (c .to-bytes-bytes .result) (c .loop-position .position) (c .place .result) _ _ _
+    (c .loop-position .inv) (c .place .ensures) (c .element-at .ensures) (c .add-sum .ensures)
 
 pub returns : need.returns
 returns g c =

@@ -1,7 +1,7 @@
 use mathlib.Core.Path.{_≡_}
 use denote.Ref.{now}
 use Rattle.multilinear.specs.Lent.{lent}
-use Rattle.basis.proofs.Byte_tables.{looked-below}
+use Rattle.basis.proofs.Looked_up_sums.{looked-below}
 use Rattle.basis.proofs.coordinate_sums.CoordinateSums.sum.Given as given
 
 abbrev pub Inv-loop-position : given.InvT-loop-position
