@@ -1,9 +1,7 @@
 -- Worked refusals.
 use mathlib.Core.Path.{_≡_}
-use mathlib.Core.Bool.{true, false}
 use mathlib.Core.List.{[], _∷_}
-use Rattle.std.specs.declared.option.Option.the-variants.{Some, None}
-use Rattle.refusals.specs.Refusals.{Refusal}
+use Rattle.std.specs.declared.option.Option.the-variants.{Some}
 use Rattle.refusals.specs.Steps.{packing, opening}
 
 pub record Worked : Type 0 where
