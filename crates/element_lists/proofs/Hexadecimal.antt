@@ -6,11 +6,10 @@ use native.Mathlib.Omega.{arith}
 use lib.ListN.{length, take, getD}
 use Rattle.std.proofs.shelf.Lists.{length-push, take-all}
 use Rattle.level.specs.Bytes.{Octets}
-use Rattle.element_text.specs.Hex.{hex, Is-digit, Broken, Pair}
+use Rattle.element_text.specs.Hex.{hex, Is-digit, Pair}
 use Rattle.element_text.proofs.Hexes.{length-hex}
 use Rattle.element_text.proofs.Parsing.{hex-digits, hex-next}
-use Rattle.element_lists.specs.Bytes.{Bytes-of, Bad-bytes, Refused-write-no-bytes}
-use Rattle.element_lists.specs.declared.bytes.BytesFault.{BytesFault}
+use Rattle.element_lists.specs.Bytes.{Bytes-of, Refused-write-no-bytes}
 use Rattle.element_lists.specs.declared.bytes.BytesFault.the-variants.{Odd, Digit, Memory}
 
 -- the first bytes of a text, read so far

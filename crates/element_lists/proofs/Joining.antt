@@ -10,7 +10,7 @@ use Rattle.std.specs.shelf.Lists.{All}
 use Rattle.std.proofs.shelf.Bits.{div-add-mod', mod-mul-add}
 use Rattle.std.proofs.shelf.Lists.{append-assoc, append-cancel-right, length-append, length-drop, length-push, take-all, take-take, take-append-drop, take-append-le, drop-append-le, drop-take, take-more, getD-drop, getD-at, getD-append-left, getD-append-right}
 use Rattle.level.specs.Element.{Element}
-use Rattle.element_text.specs.Hex.{hex, byte-count, Writes, Is-digit}
+use Rattle.element_text.specs.Hex.{Writes, Is-digit}
 use Rattle.element_text.proofs.Hexes.{length-hex}
 use Rattle.element_text.proofs.Parsing.{hex-digits}
 use Rattle.element_lists.specs.Elements.{joined, Each-writes, Elements-of, digits-of, No-space, Bad-element, Bad-elements, Refused-write-no-elements}

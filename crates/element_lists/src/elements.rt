@@ -1,6 +1,6 @@
 ghost use mathlib.Core.Path.{_≡_};
 ghost use mathlib.Core.List.{map};
-ghost use Prim.Native.Nat.{ℕ, _+_, _*_, _<_, _≤_};
+ghost use Prim.Native.Nat.{_+_, _*_, _<_, _≤_};
 ghost use lib.ListN.{length, take, drop, getD};
 ghost use Rattle.element_text.specs.Hex.{Writes};
 ghost use Rattle.element_lists.specs.Elements.{Elements-of, digits-of, Bad-element, Bad-elements, Refused-write-no-elements};

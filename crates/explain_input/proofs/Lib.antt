@@ -2,3 +2,4 @@ mod Prefixes
 mod Splitting
 mod Collecting
 mod Refusing
+mod Determined

@@ -1,19 +1,18 @@
 -- A refused input says nothing.
-use mathlib.Core.Path.{_≡_, refl, sym, ap, subst, _∙_}
+use mathlib.Core.Path.{_≡_, refl, ap, subst}
 use mathlib.Core.Bool.{true, false}
 use mathlib.Core.List.{List, [], _∷_}
 use Prim.Native.Nat.{ℕ, _<_}
 use native.Mathlib.Omega.{arith}
 use lib.ListN.{length}
-use Rattle.std.proofs.shelf.Tests.{true≢false, false≢true}
+use Rattle.std.proofs.shelf.Tests.{false≢true}
 use Rattle.std.specs.Options.{isSome}
 use Rattle.std.specs.Vec.{listOf}
 use Rattle.std.specs.declared.option.Option.{Option}
 use Rattle.std.specs.declared.option.Option.the-variants.{Some, None}
-use Rattle.explain_input.specs.Inputs.{Parts, Says, Optional, needed, single, Bad-input, Refused-say-nothing}
-use Rattle.explain_input.specs.Keys.{lines, texts, unreadable}
-use Rattle.explain_input.specs.Values.{Number, No-number, Letter, No-letter}
-use Rattle.explain_input.specs.declared.fault.InputFault.{InputFault}
+use Rattle.explain_input.specs.Inputs.{Parts, Says, Optional, needed, single, Refused-say-nothing}
+use Rattle.explain_input.specs.Keys.{lines, texts}
+use Rattle.explain_input.specs.Values.{Number, No-number, Letter}
 use Rattle.explain_input.specs.declared.fault.InputFault.the-variants as fault
 use Rattle.explain_input.specs.declared.key.Key.{Key}
 use Rattle.explain_input.specs.declared.key.Key.the-variants.{Level, Bits, Point, View, Batching, Challenge, Closing}

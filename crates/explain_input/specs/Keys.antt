@@ -1,10 +1,12 @@
 -- The lines of a text, and the texts that they give for each key.
+use mathlib.Core.Path.{_≡_}
+use mathlib.Core.Logic.{_≢_, _⊎_}
 use mathlib.Core.Bool.{Bool, cond, _||_}
 use mathlib.Core.List.{List, [], _∷_, _++_}
-use Prim.Native.Nat.{ℕ, suc}
+use Prim.Native.Nat.{ℕ, suc, _<_}
 use lib.Chars.{codes}
 use lib.Dec.{eqb}
-use lib.ListN.{length}
+use lib.ListN.{length, getD}
 use Rattle.std.specs.Options.{isSome}
 use Rattle.std.specs.Vec.{listOf}
 use Rattle.std.specs.declared.option.Option.{Option}
@@ -64,3 +66,19 @@ readable line = eqb (length line) 0 || keyed line
 unfoldable pub unreadable : ℕ → List (List ℕ) → Option ℕ
 unreadable n [] = None
 unreadable n (l ∷ ls) = cond (readable l) (unreadable (suc n) ls) (Some n)
+
+-- a line of a word gives a text: the line is the word alone and the text is empty, or the text stands after the word and a space
+abbrev pub Line-of : List ℕ → List ℕ → List ℕ → Type 0
+Line-of word line text = ((line ≡ word) × (text ≡ [])) ⊎ (line ≡ word ++ (32 ∷ text))
+
+-- no character is a newline
+abbrev pub One-line : List ℕ → Type 0
+One-line l = (i : ℕ) → i < length l → getD l i 0 ≢ 10
+
+-- What `lines` and `after` are.
+pub record Reading : Type 0 where
+  pub no-line : lines [] ≡ []
+  pub last-line : (l : List ℕ) → 0 < length l → One-line l → lines l ≡ l ∷ []
+  pub first-line : (l rest : List ℕ) → One-line l → lines (l ++ (10 ∷ rest)) ≡ l ∷ lines rest
+  pub text-of : (word line text : List ℕ) → Line-of word line text → after word line ≡ Some text
+  pub line-of : (word line text : List ℕ) → after word line ≡ Some text → Line-of word line text

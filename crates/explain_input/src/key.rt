@@ -1,5 +1,5 @@
 ghost use mathlib.Core.Path.{_≡_};
-ghost use Rattle.explain_input.specs.Keys.{word-of, spaced, after, given, keyed};
+ghost use Rattle.explain_input.specs.Keys.{word-of, spaced, after, given, keyed, Reading};
 ghost use Rattle.std.specs.Options.{mapped};
 
 // What a line of the input gives.
@@ -51,7 +51,7 @@ fn after_word<'a>(line: &'a [u8], word: &[u8]) -> Option<&'a [u8]>
 }
 
 // The text of a line of this key.
-pub fn text_after<'a>(line: &'a [u8], key: Key) -> Option<&'a [u8]>
+pub(crate) fn text_after<'a>(line: &'a [u8], key: Key) -> Option<&'a [u8]>
     ensures { λ r. ⌜ mapped now r ≡ after (word-of key) (now (line .entry)) ⌝ }
 {
     after_word(line, key.word().as_bytes())
@@ -65,7 +65,7 @@ fn gives(line: &[u8], key: Key) -> bool
 }
 
 // Whether a line is one of any key.
-pub fn has_key(line: &[u8]) -> bool
+pub(crate) fn has_key(line: &[u8]) -> bool
     ensures { λ r. ⌜ r ≡ keyed (now (line .entry)) ⌝ }
 {
     gives(line, Key::Level)
@@ -75,4 +75,11 @@ pub fn has_key(line: &[u8]) -> bool
         || gives(line, Key::Batching)
         || gives(line, Key::Challenge)
         || gives(line, Key::Closing)
+}
+
+// What the lines of a text are, and what a line gives for a word.
+pub fn reading_stands() -> u8
+    ensures { λ _. ⌜ Reading ⌝ }
+{
+    0
 }

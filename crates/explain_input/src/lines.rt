@@ -1,7 +1,7 @@
 ghost use mathlib.Core.Path.{_≡_};
 ghost use mathlib.Core.List.{_∷_, map};
 ghost use Prim.Native.Nat.{ℕ, _+_, _<_, _≤_};
-ghost use lib.ListN.{length, take, drop, getD};
+ghost use lib.ListN.{length, getD};
 ghost use Rattle.explain_input.specs.Keys.{lines, texts, readable, unreadable};
 ghost use Rattle.std.specs.Options.{mapped};
 ghost use Rattle.std.specs.Of.Vec.{vec-items};

@@ -1,7 +1,4 @@
 ghost use mathlib.Core.Path.{_≡_};
-ghost use mathlib.Core.Bool.{true};
-ghost use mathlib.Core.List.{[], _∷_};
-ghost use Prim.Native.Nat.{ℕ};
 ghost use Rattle.explain_input.specs.Values.{Number, No-number, level-letter, Letter, No-letter};
 ghost use Rattle.std.specs.Options.{Cases as BySome};
 use std::str::from_utf8;

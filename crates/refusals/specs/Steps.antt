@@ -31,7 +31,7 @@ power-of-two n = eqb (ones n) 1
 abbrev pub Powers-of-two : Type 0
 Powers-of-two = (n : ℕ) → Decides (power-of-two n) ((e : ℕ) × (n ≡ 2 ^ e))
 
--- the bytes of one element
+-- the bytes of one element, at least one
 abbrev pub stride : ℕ → ℕ
 stride k = max 1 (2 ^ k / 8)
 
@@ -43,15 +43,16 @@ packing k n =
     (cond (not (power-of-two (8 * n))) (packing-meets (NotAHypercube (min (8 * n) (2 ^ 64 - 1))))
     (cond (ltb n (stride k)) (packing-meets (TooShort (stride k) n)) None)))
 
--- opening at a point of n coordinates, with a view of q row variables or none
+-- a point of n coordinates, of which an element absorbs k
 abbrev pub wide-enough : ℕ → ℕ → Option Refusal
 wide-enough k n = cond (ltb n k) (meets (PointTooNarrow k n)) None
 
+-- opening at a point of n coordinates, with a view of q row variables or none
 abbrev pub opening : ℕ → ℕ → Option ℕ → Option Refusal
 opening k n None = wide-enough k n
 opening k n (Some q) = cond (ltb n q) (meets (RowVariables q n)) (wide-enough k n)
 
--- reducing a packing of 2^actual elements to that of an opening that keeps m coordinates
+-- a packing of 2^actual elements, at an opening that keeps m coordinates
 abbrev pub width : ℕ → ℕ → Option Refusal
 width m actual = cond (eqb actual m) None (meets (WidthMismatch m actual))
 
@@ -67,10 +68,10 @@ abbrev pub successor : Option ℕ → Option Refusal
 successor None = meets NoSuccessorView
 successor (Some q) = None
 
--- the weight of an index, of which there are so many
+-- the weight of an index, where there are so many weights
 abbrev pub weight : ℕ → ℕ → Option Refusal
 weight count index = cond (ltb index count) None (meets (WeightIndex count index))
 
--- closing at a point of so many coordinates
+-- closing at a point of so many coordinates, where the slot has as many as expected
 abbrev pub closing : ℕ → ℕ → Option Refusal
 closing expected actual = cond (eqb actual expected) None (meets (ClosingWidth expected actual))

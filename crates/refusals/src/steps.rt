@@ -1,5 +1,5 @@
 ghost use mathlib.Core.Path.{_≡_};
-ghost use Prim.Native.Nat.{ℕ, _^_, _<_};
+ghost use Prim.Native.Nat.{_^_, _<_};
 ghost use Rattle.refusals.specs.Refusals.{packing-refusal, ring-switch-refusal, refused};
 ghost use Rattle.refusals.specs.Steps.{told, Powers-of-two, packing, opening, width, batching, successor, weight, closing};
 use crate::faults::BitPackingError;

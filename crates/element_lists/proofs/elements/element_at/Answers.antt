@@ -1,6 +1,6 @@
 use native.Mathlib.Omega.{arith}
-use mathlib.Core.Path.{_≡_, refl, subst, ap, _∙_}
-use Prim.Native.Nat.{ℕ, _+_, _*_, _-_, _%_, _<_}
+use mathlib.Core.Path.{_≡_, refl, subst, _∙_}
+use Prim.Native.Nat.{_+_, _*_, _-_, _%_, _<_}
 use lib.ListN.{take, drop}
 use Rattle.std.proofs.shelf.Bits.{mod-mul-add}
 use Rattle.std.proofs.shelf.Lists.{getD-take, getD-drop}

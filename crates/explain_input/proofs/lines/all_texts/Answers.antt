@@ -1,8 +1,6 @@
-use mathlib.Core.Path.{ap, _∙_}
-use mathlib.Core.List.{List, _++_, map}
+use mathlib.Core.List.{map}
 use denote.Ref.{now}
 use Rattle.std.specs.Of.Vec.{vec-items}
-use Rattle.explain_input.specs.Keys.{lines, texts}
 use Rattle.explain_input.proofs.Collecting.{texts-pass, texts-push, texts-end}
 use Rattle.explain_input.proofs.lines.all_texts.Needs as need
 
