@@ -10,7 +10,7 @@ use lib.Dec.{eqb}
 use lib.Pow.{pow-mono}
 use lib.ListN.{length, getD, set}
 use Rattle.std.proofs.shelf.Tests.{cases-eq, eq-eqb, ne-eqb}
-use Rattle.level.specs.Element.{Element, width, plus, zeros}
+use Rattle.level.specs.Element.{Element, plus}
 use Rattle.level.specs.Bytes.{sixteen}
 use Rattle.level.proofs.Elements.{plus-zeros}
 use Rattle.level.proofs.Digits.{digit-at}

@@ -6,7 +6,7 @@ use Prim.Native.Nat.{ℕ, suc, _+_, _-_, _*_, _^_, _<_, _≤_}
 use native.Mathlib.Omega.{arith}
 use native.Mathlib.Nat.{add-assoc}
 use lib.ListN.{length, set}
-use Rattle.std.proofs.shelf.Tests.{cases-lt, cases-eq, cond-below, cond-above}
+use Rattle.std.proofs.shelf.Tests.{cases-lt, cond-below, cond-above}
 use Rattle.level.specs.Element.{Element, plus}
 use Rattle.multilinear.specs.Lent.{lent}
 use Rattle.multilinear.specs.Sums.{sum}

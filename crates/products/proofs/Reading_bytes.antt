@@ -7,7 +7,7 @@ use native.Mathlib.Omega.{arith}
 use borrow.Author.Count.{below-more}
 use lib.ListN.{length}
 use Rattle.std.proofs.shelf.Tests.{cases-lt}
-use Rattle.level.specs.Element.{Element, width, coordinate, zeros}
+use Rattle.level.specs.Element.{Element, width}
 use Rattle.multilinear.specs.Lent.{lent}
 use Rattle.multilinear.specs.Sums.{sum, at-bit}
 use Rattle.multilinear.proofs.Sums.{sum-same, sum-none}
@@ -16,7 +16,7 @@ use Rattle.tensor_algebra.specs.Tensor.{exterior}
 use Rattle.tensor_algebra.proofs.Subset_sums.{eights}
 use Rattle.tensor_algebra.proofs.Bucket_sums.{row-from-buckets}
 use Rattle.products.specs.Buckets.{bytes, Bucketed, Summed}
-use Rattle.products.specs.Halves.{halvings, of-byte, with-bit, Byte-read, All-halved}
+use Rattle.products.specs.Halves.{halvings, of-byte, with-bit, Byte-read}
 use Rattle.products.proofs.Filling.{lent-past}
 
 -- the rows of the bytes below n are read out

@@ -1,15 +1,13 @@
 -- The rows of a byte from its buckets, halved bit by bit from the highest.
 use mathlib.Core.Path.{_≡_, refl, sym, ap, ap₂, _∙_}
-use mathlib.Core.Bool.{cond}
 use mathlib.Core.Logic.{⊎-elim}
 use Prim.Native.Nat.{ℕ, zero, suc, _+_, _-_, _*_, _/_, _%_, _^_, _<_, _≤_}
 use native.Mathlib.Omega.{arith}
 use native.Mathlib.Nat.{pow-suc, div-eq-of-lt}
 use lib.Arith.{digits-div, digits-mod}
-use lib.Dec.{ltb}
 use lib.Pow.{pow-mono}
 use Rattle.std.proofs.shelf.Tests.{cond-below, cond-above, cases-lt}
-use Rattle.level.specs.Element.{Element, plus, zeros}
+use Rattle.level.specs.Element.{Element, plus}
 use Rattle.level.proofs.Elements.{zeros-plus}
 use Rattle.level.proofs.Digits.{low-bit}
 use Rattle.multilinear.specs.Sums.{sum, at-bit}

@@ -33,6 +33,7 @@ pub struct LeftFactors<'a, L> {
 }
 
 impl<'a, L: Level> LeftFactors<'a, L> {
+    // The left factors of every block to come.
     pub fn new(left: &'a [L]) -> LeftFactors<'a, L>
         ensures { λ r. ⌜ now (r .left) ≡ now (left .entry) ⌝ }
     {

@@ -1,6 +1,6 @@
 // Terms gathered in buckets.
 ghost use mathlib.Core.Path.{_≡_};
-ghost use Prim.Native.Nat.{ℕ, _+_, _*_, _<_, _≤_};
+ghost use Prim.Native.Nat.{_+_, _*_, _<_, _≤_};
 ghost use lib.ListN.{length};
 ghost use Rattle.level.specs.Element.{zeros};
 ghost use Rattle.multilinear.specs.Lent.{lent};

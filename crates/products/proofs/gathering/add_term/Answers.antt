@@ -1,6 +1,5 @@
-use mathlib.Core.Path.{ap, _∙_}
 use native.Mathlib.Omega.{arith}
-use Rattle.products.proofs.Adding.{few-bytes, adding-begins, adding-more, adding-ends}
+use Rattle.products.proofs.Adding.{adding-begins, adding-more, adding-ends}
 use Rattle.products.proofs.gathering.add_term.Needs as need
 
 pub loop-j-holds : need.loop-j-holds
