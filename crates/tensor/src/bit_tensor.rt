@@ -6,9 +6,9 @@ ghost use Rattle.level.specs.Element.{width};
 ghost use Rattle.multilinear.specs.Lent.{lent};
 ghost use Rattle.tensor_algebra.specs.Tensor.{nothing, one, exterior, add, column, scale-rows, scale-columns, equality-factor, batch-rows};
 ghost use Rattle.ring_switch.specs.Claims.{by-columns};
+use level::level::Level;
 use tensor_rows::columns;
 use tensor_rows::rows;
-use level::level::Level;
 
 // A tensor over lent rows: d elements, row u at place u.
 #[derive(Drop)]

@@ -11,5 +11,5 @@ Inv-loop-i g l =
     let m = g .L·Level in
     let means = m .means in
     (factors-from means (m .arithmetic) (l .point) (l .other) (l .i) (lent means (l .rows))
-        ≡ equality-factors (m .arithmetic) (map means (l .point)) (map means (l .other)) (lent means (l .entry .rows)))
+    ≡ equality-factors (m .arithmetic) (map means (l .point)) (map means (l .other)) (lent means (l .entry .rows)))
     × (lent means (l .scratch) ≡ nothing)
