@@ -1,13 +1,13 @@
 -- The equality table of a point, coordinate by coordinate from the last to the first.
-use mathlib.Core.Path.{_≡_, refl, sym, ap, ap₂, subst, _∙_}
+use mathlib.Core.Path.{_≡_, sym, ap, ap₂, subst, _∙_}
 use mathlib.Core.Logic.{⊎-elim}
 use mathlib.Core.List.{List, [], _∷_, map}
-use Prim.Native.Nat.{ℕ, zero, suc, _+_, _-_, _*_, _/_, _%_, _^_, _<_, _≤_}
+use Prim.Native.Nat.{ℕ, suc, _+_, _-_, _*_, _/_, _%_, _^_, _<_, _≤_}
 use native.Mathlib.Omega.{arith}
-use native.Mathlib.Nat.{pow-suc, div-eq-of-lt, one-mul}
+use native.Mathlib.Nat.{pow-suc, div-eq-of-lt}
 use lib.Arith.{digits-div, digits-mod}
-use lib.ListN.{length, getD, drop, set, length-drop, length-map, length-set}
-use lib.Pow.{pow-pos, pow-mono}
+use lib.ListN.{length, getD, drop, length-drop, length-map}
+use lib.Pow.{pow-mono}
 use Rattle.std.proofs.shelf.Lists.{drop-all, drop-more}
 use Rattle.std.proofs.shelf.Tests.{cases-lt}
 use Rattle.level.specs.Element.{Element, plus, zeros}
@@ -16,7 +16,6 @@ use Rattle.level.proofs.Ring.{plus-times, unit-times}
 use Rattle.multilinear.specs.Equality.{Point, factor, entry}
 use Rattle.multilinear.specs.Lent.{lent}
 use Rattle.multilinear.proofs.Entries.{entry-reduced}
-use Rattle.multilinear.proofs.Lent.{lent-written}
 use Rattle.equality.specs.Tables.{Widened, Tabulated}
 
 -- the table of the coordinates from place c on stands in the first `half` places

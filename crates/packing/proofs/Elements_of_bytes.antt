@@ -4,7 +4,7 @@ use mathlib.Core.List.{List, _++_}
 use mathlib.Core.Logic.{⊎-elim}
 use Prim.Native.Nat.{ℕ, zero, suc, _+_, _-_, _*_, _/_, _%_, _^_, _<_, _≤_}
 use native.Mathlib.Omega.{arith}
-use native.Mathlib.Nat.{mul-left-comm, mod-mod, add-mul, one-mul}
+use native.Mathlib.Nat.{mul-left-comm, mod-mod, add-mul}
 use lib.ListN.{length, getD, take, drop, replicate, length-drop}
 use lib.Pow.{pow-add, pow-pos}
 use lib.Seq.{length-take-le}
@@ -14,7 +14,7 @@ use Rattle.level.specs.Element.{Element, width, coordinate}
 use Rattle.level.specs.Bytes.{from-sixteen, Octets}
 use Rattle.level.proofs.Digits.{bytes-are-coordinates}
 use Rattle.refusals.specs.Steps.{stride}
-use Rattle.multilinear.specs.Cells.{cell, gather, packed}
+use Rattle.multilinear.specs.Cells.{cell, packed}
 use Rattle.multilinear.proofs.Coordinates.{by-coordinates, coordinate-gather}
 
 -- a level of whole bytes

@@ -1,14 +1,14 @@
 -- Packed elements written one after another, and the levels at which bytes are packed.
-use mathlib.Core.Path.{_≡_, refl, sym, ap, subst, _∙_}
+use mathlib.Core.Path.{_≡_, refl, sym, ap, _∙_}
 use mathlib.Core.Bool.{Bool, true, false, cond}
 use mathlib.Core.List.{List}
 use mathlib.Core.Logic.{⊎-elim}
-use Prim.Native.Nat.{ℕ, _+_, _*_, _/_, _%_, _^_, _<_, _≤_, min}
+use Prim.Native.Nat.{ℕ, _+_, _*_, _/_, _^_, _<_, _≤_}
 use native.Mathlib.Omega.{arith}
 use native.Mathlib.Nat.{mul-le-mul-right}
 use borrow.Author.Count.{below-more}
 use lib.Dec.{ltb}
-use lib.ListN.{length, getD, set, drop}
+use lib.ListN.{length, set, drop}
 use lib.Pow.{pow-lt}
 use Rattle.std.proofs.shelf.Bits.{div-add-mod'}
 use Rattle.std.proofs.shelf.Lists.{drop-drop, drop-set-lt}
@@ -17,9 +17,8 @@ use Rattle.std.specs.declared.option.Option.{Option}
 use Rattle.std.specs.declared.option.Option.the-variants.{Some, None}
 use Rattle.level.specs.Element.{Element}
 use Rattle.multilinear.specs.Cells.{cell, packed}
-use Rattle.multilinear.specs.Lent.{lent}
 use Rattle.multilinear.proofs.Lent.{lent-written, lent-kept}
-use Rattle.refusals.specs.Steps.{told, packing}
+use Rattle.refusals.specs.Steps.{packing}
 use Rattle.packing.specs.Packing.{Packed}
 
 -- an element of which there are so many lies within the bytes

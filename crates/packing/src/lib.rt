@@ -2,7 +2,7 @@
 // At a level of whole bytes this moves no bit: an element's coordinates are the bits of its bytes.
 ghost use mathlib.Core.Path.{_≡_};
 ghost use mathlib.Core.List.{_++_};
-ghost use Prim.Native.Nat.{_+_, _-_, _*_, _/_, _^_, _≤_};
+ghost use Prim.Native.Nat.{_+_, _*_, _/_, _≤_};
 ghost use lib.ListN.{length, take, drop, replicate};
 ghost use Rattle.multilinear.specs.Cells.{cell, packed};
 ghost use Rattle.packing.specs.Packing.{Packed};

@@ -1,4 +1,4 @@
-use mathlib.Core.Path.{_≡_, ap, subst, _∙_}
+use mathlib.Core.Path.{_≡_, subst}
 use Prim.Native.Nat.{_/_, _≤_}
 use native.Mathlib.Omega.{arith}
 use lib.ListN.{length}
@@ -10,7 +10,7 @@ pub pack-elements-requires : need.pack-elements-requires
 pack-elements-requires g c κs =
     let k = g .L·Level .log in
     let n = length (c .args .bits .now) in
-    let level = levels-packed (told k) n (c .in-Continue-check-packing .ensures tt) in
+    let level = levels-packed (told k) _ (c .in-Continue-check-packing .ensures tt) in
     let whole : told k ≡ k = omega (arith, level) in
     record {
       level = (omega (arith, level), omega (arith, level));
