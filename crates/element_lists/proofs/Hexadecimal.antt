@@ -40,7 +40,7 @@ front-all text bytes j h f = record { octets = f .octets; text-is = sym (take-al
 
 pub refused-write-no-bytes : Refused-write-no-bytes
 refused-write-no-bytes text bytes Odd m e w = omega (arith, ap length (w .text-is), length-hex bytes)
-refused-write-no-bytes text bytes (Digit place) m (at , _ , inside , b) w =
+refused-write-no-bytes text bytes (Digit place) m (at, _, inside, b) w =
     let d : Is-digit (getD text at 0) = subst (λ t. Is-digit (getD t at 0)) (sym (w .text-is)) (hex-digits bytes (w .octets) at (omega (arith, ap length (w .text-is), length-hex bytes))) in
     b .no-digit (d .0) (d .1) (d .2)
 refused-write-no-bytes text bytes Memory m e w = m refl

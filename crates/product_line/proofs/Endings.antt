@@ -19,6 +19,9 @@ empty line h = inr (λ i. line, λ front e. absurd (omega (arith, ap length e, l
 
 pub open-ended : (line : List ℕ) → getD line (length line - 1) 0 ≢ 10 → Stripped line line
 open-ended line h =
-    inr (λ i. line, λ front e.
-      let n : length front ≡ length line - 1 = omega (arith, ap length e, length-push front 10) in
-      h (ap (λ l. getD l (length line - 1) 0) e ∙ getD-push front 10 0 (length line - 1) n))
+    inr (
+      λ i. line,
+      λ front e.
+          let n : length front ≡ length line - 1 = omega (arith, ap length e, length-push front 10) in
+          h (ap (λ l. getD l (length line - 1) 0) e ∙ getD-push front 10 0 (length line - 1) n),
+    )

@@ -42,19 +42,28 @@ pub fn product_line(heap: Global, line: &[u8]) -> Result<String, LineFault>
 fn letter_text(heap: Global) -> Result<String, AllocError>
     ensures { λ r. ⌜ made r (λ s. string-bytes s ≡ codes "error: " ++ fault-text Letter) ⌝ }
 {
-    format!(heap, "error: no level letter (b, w, d, q or a) at the start of the line")
+    format!(
+        heap,
+        "error: no level letter (b, w, d, q or a) at the start of the line"
+    )
 }
 
 fn shape_text(heap: Global, digits: usize) -> Result<String, AllocError>
     ensures { λ r. ⌜ made r (λ s. string-bytes s ≡ codes "error: " ++ fault-text (Shape digits)) ⌝ }
 {
-    format!(heap, "error: the letter is not followed by a space and {digits} digits, twice")
+    format!(
+        heap,
+        "error: the letter is not followed by a space and {digits} digits, twice"
+    )
 }
 
 fn digit_text(heap: Global, place: usize) -> Result<String, AllocError>
     ensures { λ r. ⌜ made r (λ s. string-bytes s ≡ codes "error: " ++ fault-text (Digit place)) ⌝ }
 {
-    format!(heap, "error: character {place} is no lower-case hexadecimal digit")
+    format!(
+        heap,
+        "error: character {place} is no lower-case hexadecimal digit"
+    )
 }
 
 fn memory_text(heap: Global) -> Result<String, AllocError>
