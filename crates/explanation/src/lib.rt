@@ -5,5 +5,7 @@ pub mod lines;
 pub mod problem;
 pub mod reading;
 pub mod report;
+mod step_lines;
 pub mod steps;
+pub mod stop;
 pub mod words;

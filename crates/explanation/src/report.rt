@@ -1,130 +1,94 @@
-use crate::lines::element_line;
+ghost use mathlib.Core.Path.{_≡_};
+ghost use mathlib.Core.List.{_++_, map};
+ghost use Prim.Native.Nat.{_^_, _<_, _≤_};
+ghost use lib.ListN.{length};
+ghost use Rattle.std.specs.Of.String.{string-bytes};
+ghost use Rattle.std.specs.Of.Vec.{vec-items};
+ghost use Rattle.std.specs.Vec.{made};
+ghost use Rattle.std.specs.declared.option.Option.the-variants.{Some, None};
+ghost use Rattle.refusals.specs.Steps.{told, opening};
+ghost use Rattle.explanation.specs.Report.{variables-of, batched-text, opened-text, report-text, task-of, Reported};
 use crate::lines::number_line;
-use crate::lines::optional_line;
 use crate::problem::Problem;
-use crate::steps::BatchedSlot;
-use crate::steps::Opening;
+use crate::step_lines::batch_lines;
+use crate::step_lines::closing_lines;
+use crate::step_lines::opening_lines;
+use crate::step_lines::packed_lines;
 use crate::steps::batch;
-use crate::steps::close;
 use crate::steps::open;
 use crate::steps::packed_variables;
+use crate::stop::Stop;
+use crate::stop::StopFromAlloc;
+use crate::stop::StopFromPacking;
+use crate::stop::StopFromRingSwitch;
 use level::level::Level;
-use plain::batching::weight;
-use plain::cells::packed_element;
-use refusals::faults::BitPackingError;
-use refusals::faults::BitRingSwitchError;
 use std::alloc::AllocError;
 use std::alloc::Global;
 
-// Why the lines end early.
-#[derive(Clone, Copy)]
-pub enum Stop {
-    // A step was refused, by this number.
-    Refused { number: u8 },
-    // There was no memory for the lines.
-    Memory,
-}
-
-impl From<AllocError> for Stop as StopFromAlloc {
-    fn from(e: AllocError) -> Stop {
-        let AllocError = e;
-        Stop::Memory
-    }
-}
-
-impl From<BitPackingError> for Stop as StopFromPacking {
-    fn from(e: BitPackingError) -> Stop {
-        Stop::Refused { number: e.number() }
-    }
-}
-
-impl From<BitRingSwitchError> for Stop as StopFromRingSwitch {
-    fn from(e: BitRingSwitchError) -> Stop {
-        Stop::Refused { number: e.number() }
-    }
-}
-
-// Adds a line for each of the first packed elements.
-fn packed_lines<L: Level>(
+// Adds the lines of the batching at a point and of the closing points, until a step is refused.
+fn batched_lines<'a, L: Level>(
     heap: Global,
     out: &mut String,
-    bits: &[u8],
-    count: usize,
-) -> Result<(), AllocError> {
-    for w in 0..count {
-        element_line(heap, out, "packed", packed_element::<L>(bits, w))?;
-    }
-    Ok(())
+    problem: &'a Problem<L>,
+    batching: &'a [L],
+) -> Result<(), Stop>
+    requires narrow { ⌜ L·Level .log ≤ 7 ⌝ }
+    requires short { ⌜ length (vec-items (now problem .point)) < 64 ⌝ }
+    requires opened { ⌜ opening (told (L·Level .log)) (length (vec-items (now problem .point))) (now problem .view) ≡ None ⌝ }
+    ensures { λ r. ⌜ Reported r (string-bytes (now (out .exit))) (string-bytes (now (out .entry)) ++ batched-text arithmetic (task-of means (now (problem .entry))) (Some (map means (now (batching .entry))))) ⌝ }
+{
+    let bits = problem.bits.as_slice();
+    let point = problem.point.as_slice();
+    let batched = batch(bits, point, problem.view, batching, problem.challenge)?;
+    batch_lines(heap, out, &batched)?;
+    closing_lines(heap, out, &batched, problem.closings.as_slice())
 }
 
-// Adds the lines of an opening.
-fn opening_lines<L: Level>(
-    heap: Global,
-    out: &mut String,
-    opening: &Opening<L>,
-) -> Result<(), AllocError> {
-    element_line(heap, out, "incoming", opening.incoming)?;
-    optional_line(heap, out, "successor", opening.successor)?;
-    number_line(heap, out, "prefix", opening.prefix)?;
-    number_line(heap, out, "address", opening.address)
-}
-
-// Adds the lines of a batching: the initial sum and the weights.
-fn batch_lines<L: Level>(
-    heap: Global,
-    out: &mut String,
-    batched: &BatchedSlot<L>,
-) -> Result<(), AllocError> {
-    element_line(heap, out, "initial", batched.initial)?;
-    for i in 0..1 << batched.slot.len() {
-        let x = weight(batched.batching, batched.slot, batched.stepping, i);
-        element_line(heap, out, "weight", x)?;
-    }
-    Ok(())
-}
-
-// Adds the line of each closing point, until one is refused.
-fn closing_lines<L: Level>(
-    heap: Global,
-    out: &mut String,
-    batched: &BatchedSlot<L>,
-    closings: &[Vec<L>],
-) -> Result<(), Stop> {
-    for z in closings {
-        element_line(heap, out, "closing", close(batched, z.as_slice())?)?;
-    }
-    Ok(())
-}
-
-// Adds the lines of a problem, until a step is refused.
-fn problem_lines<L: Level>(
+// Adds the lines of a problem past its packed elements, until a step is refused.
+fn opened_lines<L: Level>(
     heap: Global,
     out: &mut String,
     problem: &Problem<L>,
-) -> Result<(), Stop> {
+    variables: usize,
+) -> Result<(), Stop>
+    requires narrow { ⌜ L·Level .log ≤ 7 ⌝ }
+    requires few { ⌜ variables ≤ 24 ⌝ }
+    requires packed { ⌜ variables ≡ variables-of (L·Level .log) (length (vec-items (now problem .bits))) ⌝ }
+    ensures { λ r. ⌜ Reported r (string-bytes (now (out .exit))) (string-bytes (now (out .entry)) ++ opened-text arithmetic (task-of means (now (problem .entry)))) ⌝ }
+{
     let bits = problem.bits.as_slice();
     let point = problem.point.as_slice();
-    let variables = packed_variables::<L>(bits)?;
-    packed_lines::<L>(heap, out, bits, 1 << variables)?;
     let opening = open(bits, variables, point, problem.view)?;
     opening_lines(heap, out, &opening)?;
-    if let Some(batching) = &problem.batching {
-        let batched = batch(bits, point, problem.view, batching.as_slice(), problem.challenge)?;
-        batch_lines(heap, out, &batched)?;
-        closing_lines(heap, out, &batched, problem.closings.as_slice())?;
+    match &problem.batching {
+        Some(batching) => batched_lines(heap, out, problem, batching.as_slice()),
+        None => Ok(()),
     }
-    Ok(())
 }
 
-// The lines of a problem, with a last line for a step that is refused.
-pub fn report<L: Level>(heap: Global, problem: &Problem<L>) -> Result<String, AllocError> {
+// Adds the lines of a problem, until a step is refused.
+fn problem_lines<L: Level>(heap: Global, out: &mut String, problem: &Problem<L>) -> Result<(), Stop>
+    requires { ⌜ length (vec-items (now problem .bits)) ≤ 2 ^ 24 ⌝ }
+    ensures { λ r. ⌜ Reported r (string-bytes (now (out .exit))) (string-bytes (now (out .entry)) ++ report-text arithmetic (task-of means (now (problem .entry)))) ⌝ }
+{
+    let bits = problem.bits.as_slice();
+    let variables = packed_variables::<L>(bits)?;
+    packed_lines::<L>(heap, out, bits, 1 << variables)?;
+    opened_lines(heap, out, problem, variables)
+}
+
+// The report of a problem: its lines, and a last one where a step is refused.
+pub fn report<L: Level>(heap: Global, problem: &Problem<L>) -> Result<String, AllocError>
+    requires { ⌜ length (vec-items (now problem .bits)) ≤ 2 ^ 24 ⌝ }
+    ensures { λ r. ⌜ made r (λ s. string-bytes s ≡ report-text arithmetic (task-of means (now (problem .entry)))) ⌝ }
+{
     let mut out = String::new(heap);
     match problem_lines(heap, &mut out, problem) {
-        Ok(()) => {}
+        Ok(()) => Ok(out),
         Err(Stop::Refused { number }) => {
             number_line(heap, &mut out, "refused", usize::from(number))?;
+            Ok(out)
         }
-        Err(Stop::Memory) => return Err(AllocError),
+        Err(Stop::Memory) => Err(AllocError),
     }
-    Ok(out)
 }

@@ -1,3 +1,20 @@
+ghost use mathlib.Core.Path.{_≡_};
+ghost use mathlib.Core.List.{map};
+ghost use Prim.Native.Nat.{ℕ, _<_, _≤_};
+ghost use lib.ListN.{length};
+ghost use Rattle.std.specs.Options.{mapped};
+ghost use Rattle.std.specs.Vec.{made};
+ghost use Rattle.std.specs.declared.option.Option.the-variants.{None};
+ghost use Rattle.multilinear.specs.Cells.{cell, standing, one-row-on};
+ghost use Rattle.multilinear.specs.Equality.{equality, multilinear};
+ghost use Rattle.ring_switch.specs.Batching.{closing-value};
+ghost use Rattle.ring_switch.specs.Batching_laws.{Rows-within};
+ghost use Rattle.refusals.specs.Refusals.{packing-refusal, ring-switch-refusal, refused};
+ghost use Rattle.refusals.specs.Steps.{told, packing, opening, closing};
+ghost use Rattle.plain.specs.Steps.{steps};
+ghost use Rattle.explanation.specs.Packing.{Packs};
+ghost use Rattle.explanation.specs.Opened.{open-refusal, values-at, values-of};
+ghost use Rattle.explanation.specs.Batched.{stepped, batch-refusal, slot-batching, batching-of};
 use element_text::element::byte_count;
 use level::level::Level;
 use plain::batching::closing_value;
@@ -40,26 +57,37 @@ pub struct BatchedSlot<'a, L> {
 }
 
 // The log of how many packed elements the bytes hold.
-pub fn packed_variables<L: Level>(bits: &[u8]) -> Result<usize, BitPackingError> {
+pub fn packed_variables<L: Level>(bits: &[u8]) -> Result<usize, BitPackingError>
+    ensures refusal { λ r. ⌜ refused packing-refusal r ≡ packing (told (L·Level .log)) (length (now (bits .entry))) ⌝ }
+    ensures packs { λ r. ⌜ made r (Packs (L·Level .log) (length (now (bits .entry)))) ⌝ }
+{
     check_packing::<L>(bits.len())?;
-    Ok((bits.len() / byte_count::<L>()).trailing_zeros() as usize)
+    Ok((bits.len() / byte_count::<L>()).ilog2() as usize)
 }
 
 // The successor value, where there is a view.
-fn successor<L: Level>(bits: &[u8], point: &[L], view: Option<usize>) -> Option<L> {
+fn successor<L: Level>(bits: &[u8], point: &[L], view: Option<usize>) -> Option<L>
+    requires { ⌜ opening (told (L·Level .log)) (length (now point)) view ≡ None ⌝ ∗ ⌜ length (now point) < 64 ⌝ }
+    ensures { λ r. ⌜ mapped means r ≡ mapped (λ q. multilinear arithmetic (λ c. standing arithmetic (one-row-on q (cell (now (bits .entry))) c)) (map means (now (point .entry)))) view ⌝ }
+{
     match view {
         Some(q) => Some(successor_value(bits, point, q)),
         None => None,
     }
 }
 
-// The values of the opening at a point of bytes that hold 2^variables packed elements.
+// The values of the opening at a point, where the bytes hold 2^variables packed elements.
 pub fn open<L: Level>(
     bits: &[u8],
     variables: usize,
     point: &[L],
     view: Option<usize>,
-) -> Result<Opening<L>, BitRingSwitchError> {
+) -> Result<Opening<L>, BitRingSwitchError>
+    requires narrow { ⌜ L·Level .log ≤ 7 ⌝ }
+    requires few { ⌜ variables ≤ 24 ⌝ }
+    ensures refusal { λ r. ⌜ refused ring-switch-refusal r ≡ open-refusal (L·Level .log) variables (length (now (point .entry))) view ⌝ }
+    ensures opened { λ r. ⌜ made r (λ o. values-of means o ≡ values-at arithmetic (cell (now (bits .entry))) (map means (now (point .entry))) view) ⌝ }
+{
     check_opening::<L>(point.len(), view)?;
     check_width(point.len() - usize::from(L::log_width()), variables)?;
     let (prefix, address) = fixed_prefix(point, view);
@@ -71,8 +99,10 @@ pub fn open<L: Level>(
     })
 }
 
-// What successor tensors add to a batching, where they are sent and there is a challenge.
-fn stepping_of<L: Level>(rows: Option<usize>, challenge: Option<L>) -> Option<Stepping<L>> {
+// What the challenge adds where row variables are kept.
+fn stepping_of<L: Level>(rows: Option<usize>, challenge: Option<L>) -> Option<Stepping<L>>
+    ensures { λ r. ⌜ steps means r ≡ stepped rows (mapped means challenge) ⌝ }
+{
     match (rows, challenge) {
         (Some(rows), Some(challenge)) => Some(Stepping { rows, challenge }),
         _ => None,
@@ -86,7 +116,15 @@ pub fn batch<'a, L: Level>(
     view: Option<usize>,
     batching: &'a [L],
     challenge: Option<L>,
-) -> Result<BatchedSlot<'a, L>, BitRingSwitchError> {
+) -> Result<BatchedSlot<'a, L>, BitRingSwitchError>
+    requires narrow { ⌜ L·Level .log ≤ 7 ⌝ }
+    requires short { ⌜ length (now point) < 64 ⌝ }
+    requires opened { ⌜ opening (told (L·Level .log)) (length (now point)) view ≡ None ⌝ }
+    ensures refusal { λ r. ⌜ refused ring-switch-refusal r ≡ batch-refusal (L·Level .log) view challenge (length (now (batching .entry))) ⌝ }
+    ensures batched { λ r. ⌜ made r (λ b. batching-of means b ≡ slot-batching arithmetic (cell (now (bits .entry))) (map means (now (point .entry))) view (map means (now (batching .entry))) (mapped means challenge)) ⌝ }
+    ensures rows { λ r. ⌜ made r (λ b. Rows-within (steps means (b .stepping)) (length (now (b .slot)))) ⌝ }
+    ensures short { λ r. ⌜ made r (λ b. length (now (b .slot)) < 64) ⌝ }
+{
     let rows = kept_row_variables::<L>(view);
     check_batching::<L>(rows.is_some(), challenge.is_some(), batching.len())?;
     let stepping = stepping_of(rows, challenge);
@@ -101,7 +139,13 @@ pub fn batch<'a, L: Level>(
 }
 
 // The closing value of a batching at a point.
-pub fn close<L: Level>(batched: &BatchedSlot<L>, z: &[L]) -> Result<L, BitRingSwitchError> {
+pub fn close<L: Level>(batched: &BatchedSlot<L>, z: &[L]) -> Result<L, BitRingSwitchError>
+    requires narrow { ⌜ L·Level .log ≤ 7 ⌝ }
+    requires rows { ⌜ Rows-within (steps means (now batched .stepping)) (length (now (now batched .slot))) ⌝ }
+    requires short { ⌜ length (now (now batched .slot)) < 64 ⌝ }
+    ensures refusal { λ r. ⌜ refused ring-switch-refusal r ≡ closing (length (now (now (batched .entry) .slot))) (length (now (z .entry))) ⌝ }
+    ensures value { λ r. ⌜ made r (λ x. means x ≡ closing-value arithmetic (equality arithmetic (map means (now (now (batched .entry) .batching)))) (map means (now (now (batched .entry) .slot))) (steps means (now (batched .entry) .stepping)) (map means (now (z .entry)))) ⌝ }
+{
     check_closing(batched.slot.len(), z.len())?;
     Ok(closing_value(batched.batching, batched.slot, batched.stepping, z))
 }
