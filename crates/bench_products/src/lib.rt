@@ -1,4 +1,5 @@
 // Loops of products for the benchmark, one for each level that it measures, exported for a driver in Rust.
+#![tactic(auto)]
 ghost use Rattle.std.specs.Prelude.{◌≡◌, ◌≤◌};
 ghost use Rattle.doubling.specs.Doubled.{tower};
 ghost use Rattle.polynomial.specs.Polynomial.{polynomial};

@@ -1,5 +1,6 @@
 // An element's coordinates as one number, coordinate u at bit u, and elements made from such numbers.
 // All of it is for levels of at most 128 coordinates.
+#![tactic(auto)]
 ghost use Rattle.std.specs.Prelude.{◌≡◌, ◌+◌, ◌*◌, ◌/◌, ◌%◌, ◌^◌, ◌<◌, ◌≤◌};
 ghost use Rattle.level.specs.Bytes.{digits, le_number};
 ghost use Rattle.level.specs.Element.{width, cut};

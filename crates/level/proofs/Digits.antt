@@ -1,10 +1,9 @@
 -- Numbers by their base-256 digits, and digits by their bits.
-use Rattle.std.proofs.Common.{◌≡◌, ℕ, zero, suc, ◌+◌, ◌-◌, ◌*◌, ◌/◌, ◌%◌, ◌^◌, ◌<◌, ◌≤◌, List, [], ◌∷◌, length, get_or, drop, sym, refl, ap, ◌∙◌, lt_of_lt_of_le, le_of_suc-le-suc, not-suc-le-zero, mod-lt, zero-lt-suc, add-one, arith, pow_pos, pow_mono, pow-add}
-use native.Mathlib.Nat.{div-div-eq-div-mul, div-eq_of_lt, zero-div}
+use Rattle.std.proofs.Common.{◌≡◌, ℕ, zero, suc, ◌+◌, ◌-◌, ◌*◌, ◌/◌, ◌%◌, ◌^◌, ◌<◌, ◌≤◌, List, [], ◌∷◌, length, get_or, sym, refl, ap, ◌∙◌, lt_of_lt_of_le, le_of_suc-le-suc, not-suc-le-zero, arith, pow_mono}
+use native.Mathlib.Nat.{div-eq_of_lt, zero-div}
 use lib.Pow.{field, mod-mod-pow}
-use Rattle.std.proofs.lemmas.Nat.{mod-pow-add, shr-shr, pow_below}
-use Rattle.std.proofs.lemmas.List.{drop_all}
-use Rattle.level.specs.Element.{Element, coordinate, cut}
+use Rattle.std.proofs.lemmas.Nat.{mod-pow-add, shr-shr}
+use Rattle.level.specs.Element.{cut}
 use Rattle.level.specs.Bytes.{digits, le_number, sixteen, from_sixteen, Octets, BytesAreCoordinates}
 
 pub length_digits : (k n : ℕ) → length (digits k n) ≡ k

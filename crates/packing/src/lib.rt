@@ -1,5 +1,6 @@
 // A table of bits packed into elements in lent memory: the bytes of the table, an element's worth at a time.
 // At a level of whole bytes this moves no bit: an element's coordinates are the bits of its bytes.
+#![tactic(auto)]
 ghost use Rattle.std.specs.Prelude.{◌≡◌, ◌+◌, ◌*◌, ◌/◌, ◌≤◌, ◌++◌, length, take, drop, replicate, MatchResult};
 ghost use Rattle.multilinear.specs.Cells.{cell, packed};
 ghost use Rattle.packing.specs.Packing.{Packed};

@@ -1,4 +1,5 @@
 // Reads an input from standard input and prints the values of its opening, one a line, or a line that begins `error: `.
+#![tactic(auto)]
 use reducing::reduce::reduce;
 use std::io;
 use std::io::Read;
