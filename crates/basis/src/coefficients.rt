@@ -39,7 +39,7 @@ impl Coefficients {
 
     // The coordinates of an element.
     pub fn of<L: Level>(value: L) -> Coefficients
-        ensures { result.bytes ≡ sixteen (means value) }
+        ensures { result.bytes ≡ sixteen (L.means value) }
     {
         Coefficients {
             bytes: value.to_bytes(),
@@ -88,7 +88,7 @@ impl Coefficients {
 
     // The element with these coordinates.
     pub fn element<L: Level>(&self) -> L
-        ensures { means result ≡ from_sixteen L.Level.log self.now.bytes }
+        ensures { L.means result ≡ from_sixteen L.Level.log self.now.bytes }
     {
         L::from_bytes(self.bytes)
     }
@@ -107,7 +107,7 @@ fn single(coordinate: usize) -> Coefficients
 // The element of which one coordinate alone is set, and zero past the width.
 pub fn basis_element<L: Level>(coordinate: usize) -> L
     requires { coordinate < 128 }
-    ensures { means result ≡ basis L.Level.log coordinate }
+    ensures { L.means result ≡ basis L.Level.log coordinate }
 {
     single(coordinate).element()
 }

@@ -13,7 +13,7 @@ use level::level::Level;
 // An element of a slice.
 fn element_at<L: Level>(elements: &[L], i: usize) -> L
     requires { i < length elements.now }
-    ensures { means result ≡ lent means elements.now i }
+    ensures { L.means result ≡ lent L.means elements.now i }
 {
     elements[i]
 }
@@ -39,7 +39,7 @@ fn lowest(subset: usize) -> usize
 fn extended<L: Level>(tables: &[L], start: usize, subset: usize) -> L
     requires subset { (0 < subset) × (subset < 256) }
     requires whole { start + 256 ≤ length tables.now }
-    ensures { means result ≡ plus (lent means tables.now (start + bit_and subset (subset - 1))) (lent means tables.now (start + 2 ^ count_trailing_zeros 64 subset)) }
+    ensures { L.means result ≡ plus (lent L.means tables.now (start + bit_and subset (subset - 1))) (lent L.means tables.now (start + 2 ^ count_trailing_zeros 64 subset)) }
 {
     let rest = element_at(tables, start + without_lowest(subset));
     rest.add(element_at(tables, start + lowest(subset)))
@@ -48,7 +48,7 @@ fn extended<L: Level>(tables: &[L], start: usize, subset: usize) -> L
 // Tabulates the sums of one byte position, from the weights of its coordinates at their places.
 fn complete_position<L: Level>(tables: &mut [L], position: usize)
     requires { 256 * position + 256 ≤ length tables.old }
-    ensures { Completed (lent means tables.old) (lent means tables.new) position }
+    ensures { Completed (lent L.means tables.old) (lent L.means tables.new) position }
 {
     let start = 256 * position;
     tables[start] = L::zero();
@@ -61,7 +61,7 @@ fn complete_position<L: Level>(tables: &mut [L], position: usize)
 fn complete<L: Level>(tables: &mut [L])
     requires narrow { L.Level.log ≤ 7 }
     requires sized { length tables.old ≡ 256 * num_bytes L.Level.log }
-    ensures { Tabulated (held (lent means tables.old)) (lent means tables.new) }
+    ensures { Tabulated (held (lent L.means tables.old)) (lent L.means tables.new) }
 {
     for position in 0..num_bytes::<L>() {
         complete_position(tables, position);
@@ -78,7 +78,7 @@ fn lone(coordinate: usize) -> usize
 
 // The weight of a coordinate, zero past the last.
 fn weight_at<L: Level>(weights: &[L], coordinate: usize) -> L
-    ensures { means result ≡ lent means weights.now coordinate }
+    ensures { L.means result ≡ lent L.means weights.now coordinate }
 {
     if coordinate < weights.len() {
         element_at(weights, coordinate)
@@ -92,7 +92,7 @@ pub fn tabulate<L: Level>(tables: &mut [L], weights: &[L])
     requires narrow { L.Level.log ≤ 7 }
     requires sized { length tables.old ≡ 256 * num_bytes L.Level.log }
     requires weighed { length weights.now ≡ width L.Level.log }
-    ensures { Tabulated (lent means weights.now) (lent means tables.new) }
+    ensures { Tabulated (lent L.means weights.now) (lent L.means tables.new) }
 {
     for coordinate in 0..8 * num_bytes::<L>() {
         tables[lone(coordinate)] = weight_at(weights, coordinate);
@@ -126,8 +126,8 @@ impl<'a, L: Level> CoordinateSums<'a, L> {
     pub fn sum(&self, value: L) -> L
         requires narrow { L.Level.log ≤ 7 }
         requires sized { length self.now.tables.now ≡ 256 * num_bytes L.Level.log }
-        ensures entries { means result ≡ looked_up (lent means self.now.tables.now) (means value) }
-        ensures weights { (f : ℕ → Element L.Level.log) → Tabulated f (lent means self.now.tables.now) → means result ≡ subset_sum f (means value) }
+        ensures entries { L.means result ≡ looked_up (lent L.means self.now.tables.now) (L.means value) }
+        ensures weights { (f : ℕ → Element L.Level.log) → Tabulated f (lent L.means self.now.tables.now) → L.means result ≡ subset_sum f (L.means value) }
     {
         let bytes = value.to_bytes();
         let mut sum = L::zero();
@@ -142,7 +142,7 @@ impl<'a, L: Level> CoordinateSums<'a, L> {
         requires narrow { L.Level.log ≤ 7 }
         requires sized { length self.now.tables.now ≡ 256 * num_bytes L.Level.log }
         requires within { i < length input.now }
-        ensures { means result ≡ looked_up (lent means self.now.tables.now) (lent means input.now i) }
+        ensures { L.means result ≡ looked_up (lent L.means self.now.tables.now) (lent L.means input.now i) }
     {
         self.sum(element_at(input, i))
     }
@@ -152,8 +152,8 @@ impl<'a, L: Level> CoordinateSums<'a, L> {
         requires narrow { L.Level.log ≤ 7 }
         requires sized { length self.now.tables.now ≡ 256 * num_bytes L.Level.log }
         requires equal { length output.old ≡ length input.now }
-        ensures entries { (i : ℕ) → i < length input.now → lent means output.new i ≡ looked_up (lent means self.now.tables.now) (lent means input.now i) }
-        ensures weights { (f : ℕ → Element L.Level.log) → Tabulated f (lent means self.now.tables.now) → (i : ℕ) → i < length input.now → lent means output.new i ≡ subset_sum f (lent means input.now i) }
+        ensures entries { (i : ℕ) → i < length input.now → lent L.means output.new i ≡ looked_up (lent L.means self.now.tables.now) (lent L.means input.now i) }
+        ensures weights { (f : ℕ → Element L.Level.log) → Tabulated f (lent L.means self.now.tables.now) → (i : ℕ) → i < length input.now → lent L.means output.new i ≡ subset_sum f (lent L.means input.now i) }
     {
         for i in 0..input.len() {
             output[i] = self.sum_at(input, i);
@@ -165,7 +165,7 @@ impl<'a, L: Level> CoordinateSums<'a, L> {
         requires narrow { L.Level.log ≤ 7 }
         requires sized { length self.now.tables.now ≡ 256 * num_bytes L.Level.log }
         requires coordinate { coordinate < 128 }
-        ensures { means result ≡ looked_up (lent means self.now.tables.now) (arithmetic.times (means scale) (basis L.Level.log coordinate)) }
+        ensures { L.means result ≡ looked_up (lent L.means self.now.tables.now) (L.arithmetic.times (L.means scale) (basis L.Level.log coordinate)) }
     {
         self.sum(scale.mul(basis_element(coordinate)))
     }
@@ -176,8 +176,8 @@ pub fn scaled_sums_into<L: Level>(out: &mut [L], sums: &CoordinateSums<'_, L>, s
     requires narrow { L.Level.log ≤ 7 }
     requires sized { length out.old ≡ 256 * num_bytes L.Level.log }
     requires source { length sums.now.tables.now ≡ 256 * num_bytes L.Level.log }
-    ensures weights { (f : ℕ → Element L.Level.log) → Tabulated f (lent means sums.now.tables.now) → Tabulated (scaled arithmetic f (means scale)) (lent means out.new) }
-    ensures entries { (f : ℕ → Element L.Level.log) → Tabulated f (lent means sums.now.tables.now) → (x : Element L.Level.log) → looked_up (lent means out.new) x ≡ looked_up (lent means sums.now.tables.now) (arithmetic.times (means scale) x) }
+    ensures weights { (f : ℕ → Element L.Level.log) → Tabulated f (lent L.means sums.now.tables.now) → Tabulated (scaled L.arithmetic f (L.means scale)) (lent L.means out.new) }
+    ensures entries { (f : ℕ → Element L.Level.log) → Tabulated f (lent L.means sums.now.tables.now) → (x : Element L.Level.log) → looked_up (lent L.means out.new) x ≡ looked_up (lent L.means sums.now.tables.now) (L.arithmetic.times (L.means scale) x) }
 {
     for coordinate in 0..8 * num_bytes::<L>() {
         out[lone(coordinate)] = sums.scaled_weight(scale, coordinate);

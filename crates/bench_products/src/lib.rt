@@ -1,5 +1,6 @@
 // Loops of products for the benchmark, one for each level that it measures, exported for a driver in Rust.
 #![tactic(auto)]
+
 ghost use Rattle.std.specs.Prelude.{◌≡◌, ◌≤◌};
 ghost use Rattle.doubling.specs.Doubled.{tower};
 ghost use Rattle.polynomial.specs.Polynomial.{polynomial};
@@ -20,7 +21,7 @@ type Full = Doubling<Doubling<Doubling<Doubling<TowerByte>>>>;
 
 // The product of `x` and `y`, times `y` again until it is there `n` times.
 pub fn chain<L: Level>(x: L, y: L, n: u64) -> L
-    ensures { means result ≡ chained arithmetic n (means x) (means y) }
+    ensures { L.means result ≡ chained L.arithmetic n (L.means x) (L.means y) }
 {
     let mut product = x;
     for _ in 0..n {
@@ -32,7 +33,7 @@ pub fn chain<L: Level>(x: L, y: L, n: u64) -> L
 // The coordinates below 64 of a chain whose elements have the coordinates below 64 that are given.
 fn chain_low<L: Level>(x: u64, y: u64, n: u64) -> u64
     requires { L.Level.log ≤ 7 }
-    ensures { result ≡ low_chained arithmetic n x y }
+    ensures { result ≡ low_chained L.arithmetic n x y }
 {
     let start = L::from_bytes(u128::from(x).to_le_bytes());
     let factor = L::from_bytes(u128::from(y).to_le_bytes());

@@ -1,6 +1,7 @@
 // The reduction's operations for the benchmark, at each level that it measures, exported for a driver in Rust.
 // A module for each level exports the generic functions at it, with their contracts.
 #![tactic(auto)]
+
 mod pile;
 pub mod polynomial_byte;
 pub mod tower_128;

@@ -1,6 +1,7 @@
 // A level brought from outside, run through the whole reduction: the masked byte, of which an element has many stored forms and one is
 // ff. Both ways of computing a report are run on one opening, and held to what `reference/masked.py` prints.
 #![tactic(auto)]
+
 #[cfg(test)]
 mod tests {
     use explanation::report::report as plain_report;

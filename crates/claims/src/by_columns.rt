@@ -11,7 +11,7 @@ use tensor_rows::rows::clear;
 
 // A sum with a column times its weight.
 fn with_column<L: Level>(sum: L, column: L, weight: L) -> L
-    ensures { means result ≡ plus (means sum) (arithmetic.times (means column) (means weight)) }
+    ensures { L.means result ≡ plus (L.means sum) (L.arithmetic.times (L.means column) (L.means weight)) }
 {
     sum.add(column.mul(weight))
 }
@@ -20,7 +20,7 @@ fn with_column<L: Level>(sum: L, column: L, weight: L) -> L
 fn weighed<L: Level>(columns: &[L], weights: &[L]) -> L
     requires columns { length columns.now ≡ width L.Level.log }
     requires weights { length weights.now ≡ width L.Level.log }
-    ensures { means result ≡ sum_of (width L.Level.log) (λ v. arithmetic.times (lent means columns.now v) (lent means weights.now v)) }
+    ensures { L.means result ≡ sum_of (width L.Level.log) (λ v. L.arithmetic.times (lent L.means columns.now v) (lent L.means weights.now v)) }
 {
     let mut sum = L::zero();
     for (v, column) in columns.iter().enumerate() {
@@ -35,8 +35,8 @@ pub(crate) fn by_columns<L: Level>(rows: &[L], weights: &[L], columns: &mut [L])
     requires rows { length rows.now ≡ width L.Level.log }
     requires weights { length weights.now ≡ width L.Level.log }
     requires columns { length columns.old ≡ width L.Level.log }
-    ensures value { means result ≡ by_columns arithmetic (lent means weights.now) (lent means rows.now) }
-    ensures columns { lent means columns.new ≡ nothing }
+    ensures value { L.means result ≡ by_columns L.arithmetic (lent L.means weights.now) (lent L.means rows.now) }
+    ensures columns { lent L.means columns.new ≡ nothing }
 {
     columns::columns(rows, columns);
     let sum = weighed(columns, weights);

@@ -19,11 +19,11 @@ pub fn incoming_claim<L: Level>(rows: &[L], eq_low: &[L], columns: &mut [L]) -> 
     requires rows { length rows.now ≡ width L.Level.log }
     requires eq_low { length eq_low.now ≡ width L.Level.log }
     requires columns { length columns.old ≡ width L.Level.log }
-    ensures value { means result ≡ by_columns arithmetic (lent means eq_low.now) (lent means rows.now) }
+    ensures value { L.means result ≡ by_columns L.arithmetic (lent L.means eq_low.now) (lent L.means rows.now) }
     ensures claim { (p : Point L.Level.log) (bits : ℕ → ℕ) → Binary bits → L.Level.log ≤ length p
-        → Tabulated means arithmetic arithmetic.unit (low p) eq_low.now → lent means rows.now ≡ opened arithmetic p bits
-        → means result ≡ multilinear arithmetic (λ c. standing arithmetic (bits c)) p }
-    ensures columns { lent means columns.new ≡ nothing }
+        → Tabulated L.means L.arithmetic L.arithmetic.unit (low p) eq_low.now → lent L.means rows.now ≡ opened L.arithmetic p bits
+        → L.means result ≡ multilinear L.arithmetic (λ c. standing L.arithmetic (bits c)) p }
+    ensures columns { lent L.means columns.new ≡ nothing }
 {
     by_columns(rows, eq_low, columns)
 }

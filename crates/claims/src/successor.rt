@@ -19,7 +19,7 @@ use tensor_rows::rows::clear;
 
 // The sum of two elements, each where its test holds.
 fn sum_where<L: Level>(first: bool, x: L, second: bool, y: L) -> L
-    ensures { means result ≡ plus (where_set first (means x)) (where_set second (means y)) }
+    ensures { L.means result ≡ plus (where_set first (L.means x)) (where_set second (L.means y)) }
 {
     where_set(first, x).add(where_set(second, y))
 }
@@ -28,7 +28,7 @@ fn sum_where<L: Level>(first: bool, x: L, second: bool, y: L) -> L
 // in its row of 2^q bits, and its own again where it ends its row.
 pub fn successor_low_weights<L: Level>(eq_low: &[L], q: usize, out: &mut [L])
     requires { (q < 64) × (length out.old ≡ length eq_low.now) }
-    ensures { (v : ℕ) → v < length eq_low.now → lent means out.new v ≡ row_weight (lent means eq_low.now) q v }
+    ensures { (v : ℕ) → v < length eq_low.now → lent L.means out.new v ≡ row_weight (lent L.means eq_low.now) q v }
 {
     let last = (1usize << q) - 1;
     for v in 0..eq_low.len() {
@@ -52,9 +52,9 @@ fn settled<L: Level>(
     requires q { q < 64 }
     requires columns { length columns.old ≡ width L.Level.log }
     requires weights { length weights.old ≡ width L.Level.log }
-    ensures value { means result ≡ by_columns arithmetic (row_weight (lent means eq_low.now) q) (lent means tensor.now) }
-    ensures columns { lent means columns.new ≡ nothing }
-    ensures weights { lent means weights.new ≡ nothing }
+    ensures value { L.means result ≡ by_columns L.arithmetic (row_weight (lent L.means eq_low.now) q) (lent L.means tensor.now) }
+    ensures columns { lent L.means columns.new ≡ nothing }
+    ensures weights { lent L.means weights.new ≡ nothing }
 {
     successor_low_weights(eq_low, q, weights);
     let sum = by_columns(tensor, weights, columns);
@@ -68,7 +68,7 @@ fn rippled_columns<L: Level>(carry: &[L], last: &[L], top: usize) -> L
     requires carry { length carry.now ≡ width L.Level.log }
     requires last { length last.now ≡ width L.Level.log }
     requires top { top + 1 ≡ width L.Level.log }
-    ensures { means result ≡ plus (column (lent means carry.now) 0) (column (lent means last.now) top) }
+    ensures { L.means result ≡ plus (column (lent L.means carry.now) 0) (column (lent L.means last.now) top) }
 {
     column(carry, 0).add(column(last, top))
 }
@@ -79,7 +79,7 @@ fn rippled<L: Level>(carry: &[L], last: &[L], eq_low: &[L]) -> L
     requires carry { length carry.now ≡ width L.Level.log }
     requires last { length last.now ≡ width L.Level.log }
     requires eq_low { length eq_low.now ≡ width L.Level.log }
-    ensures { means result ≡ arithmetic.times (lent means eq_low.now (width L.Level.log - 1)) (plus (column (lent means carry.now) 0) (column (lent means last.now) (width L.Level.log - 1))) }
+    ensures { L.means result ≡ L.arithmetic.times (lent L.means eq_low.now (width L.Level.log - 1)) (plus (column (lent L.means carry.now) 0) (column (lent L.means last.now) (width L.Level.log - 1))) }
 {
     let top = eq_low.len() - 1;
     eq_low[top].mul(rippled_columns(carry, last, top))
@@ -104,15 +104,15 @@ pub fn successor_claim<L: Level>(
     requires eq_low { length eq_low.now ≡ width L.Level.log }
     requires columns { length columns.old ≡ width L.Level.log }
     requires weights { length weights.old ≡ width L.Level.log }
-    ensures value { (lo : Point L.Level.log) → Tabulated means arithmetic arithmetic.unit lo eq_low.now
-        → means result ≡ successor_claim arithmetic lo q (lent means tensor.now) (lent means carry.now) (lent means last.now) }
+    ensures value { (lo : Point L.Level.log) → Tabulated L.means L.arithmetic L.arithmetic.unit lo eq_low.now
+        → L.means result ≡ successor_claim L.arithmetic lo q (lent L.means tensor.now) (lent L.means carry.now) (lent L.means last.now) }
     ensures claim { (p : Point L.Level.log) (bits : ℕ → ℕ) → Binary bits → L.Level.log ≤ length p → q ≤ length p
-        → Tabulated means arithmetic arithmetic.unit (low p) eq_low.now → lent means tensor.now ≡ opened arithmetic p bits
-        → (L.Level.log < q → lent means carry.now ≡ opened_carry arithmetic p q bits)
-        → (L.Level.log < q → lent means last.now ≡ opened_last arithmetic p q bits)
-        → means result ≡ multilinear arithmetic (λ c. standing arithmetic (one_row_on q bits c)) p }
-    ensures columns { lent means columns.new ≡ nothing }
-    ensures weights { lent means weights.new ≡ nothing }
+        → Tabulated L.means L.arithmetic L.arithmetic.unit (low p) eq_low.now → lent L.means tensor.now ≡ opened L.arithmetic p bits
+        → (L.Level.log < q → lent L.means carry.now ≡ opened_carry L.arithmetic p q bits)
+        → (L.Level.log < q → lent L.means last.now ≡ opened_last L.arithmetic p q bits)
+        → L.means result ≡ multilinear L.arithmetic (λ c. standing L.arithmetic (one_row_on q bits c)) p }
+    ensures columns { lent L.means columns.new ≡ nothing }
+    ensures weights { lent L.means weights.new ≡ nothing }
 {
     let absorbed = usize::from(L::log_width());
     let settled = settled(tensor, eq_low, q.min(absorbed + 1), columns, weights);

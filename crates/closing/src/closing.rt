@@ -27,7 +27,7 @@ fn equality_rows<L: Level>(
     requires points { length z.now ≡ length slot.now }
     requires rows { length rows.old ≡ width L.Level.log }
     requires scratch { length scratch.old ≡ width L.Level.log }
-    ensures { means result ≡ batch_rows arithmetic (lent means eq_batch.now) (equality_element arithmetic (map means slot.now) (map means z.now)) }
+    ensures { L.means result ≡ batch_rows L.arithmetic (lent L.means eq_batch.now) (equality_element L.arithmetic (map L.means slot.now) (map L.means z.now)) }
 {
     equality_element(rows, slot, z, scratch);
     batch_rows(rows, eq_batch)
@@ -50,9 +50,9 @@ fn stepped_rows<L: Level>(
     requires carry { length carry.old ≡ width L.Level.log }
     requires last { length last.old ≡ width L.Level.log }
     requires scratch { length scratch.old ≡ width L.Level.log }
-    ensures { means result ≡ successor_rows arithmetic (lent means eq_batch.now) (means stepping.challenge)
-        (carry_element arithmetic stepping.rows (map means slot.now) (map means z.now))
-        (last_element arithmetic stepping.rows (map means slot.now) (map means z.now)) }
+    ensures { L.means result ≡ successor_rows L.arithmetic (lent L.means eq_batch.now) (L.means stepping.challenge)
+        (carry_element L.arithmetic stepping.rows (map L.means slot.now) (map L.means z.now))
+        (last_element L.arithmetic stepping.rows (map L.means slot.now) (map L.means z.now)) }
 {
     carry_element(carry, stepping.rows, slot, z, scratch);
     last_element(last, stepping.rows, slot, z, scratch);
@@ -70,9 +70,9 @@ fn value_through<L: Level>(
     requires narrow { L.Level.log ≤ 7 }
     requires eq_batch { length eq_batch.now ≡ width L.Level.log }
     requires points { length z.now ≡ length slot.now }
-    requires rows { RowsWithin (steps means stepping) (length slot.now) }
+    requires rows { RowsWithin (steps L.means stepping) (length slot.now) }
     requires scratch { length scratch.old ≡ 3 * width L.Level.log }
-    ensures { means result ≡ closing_value arithmetic (lent means eq_batch.now) (map means slot.now) (steps means stepping) (map means z.now) }
+    ensures { L.means result ≡ closing_value L.arithmetic (lent L.means eq_batch.now) (map L.means slot.now) (steps L.means stepping) (map L.means z.now) }
 {
     let (carry, rest) = scratch.split_at_mut(eq_batch.len());
     let (last, rest) = rest.split_at_mut(eq_batch.len());
@@ -97,11 +97,11 @@ pub fn closing_value<L: Level>(
     requires narrow { L.Level.log ≤ 7 }
     requires eq_batch { length eq_batch.now ≡ width L.Level.log }
     requires points { length z.now ≡ length slot.now }
-    requires rows { RowsWithin (steps means stepping) (length slot.now) }
+    requires rows { RowsWithin (steps L.means stepping) (length slot.now) }
     requires scratch { length scratch.old ≡ 3 * width L.Level.log }
-    ensures value { means result ≡ closing_value arithmetic (lent means eq_batch.now) (map means slot.now) (steps means stepping) (map means z.now) }
-    ensures multilinear { means result ≡ multilinear arithmetic (weight arithmetic (lent means eq_batch.now) (map means slot.now) (steps means stepping)) (map means z.now) }
-    ensures scratch { lent means scratch.new ≡ nothing }
+    ensures value { L.means result ≡ closing_value L.arithmetic (lent L.means eq_batch.now) (map L.means slot.now) (steps L.means stepping) (map L.means z.now) }
+    ensures multilinear { L.means result ≡ multilinear L.arithmetic (weight L.arithmetic (lent L.means eq_batch.now) (map L.means slot.now) (steps L.means stepping)) (map L.means z.now) }
+    ensures scratch { lent L.means scratch.new ≡ nothing }
 {
     let value = value_through(slot, eq_batch, stepping, z, scratch);
     clear(scratch);

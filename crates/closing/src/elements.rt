@@ -11,14 +11,14 @@ use tensor_rows::rows::{add_exterior_product, clear};
 
 // A product with one coordinate more.
 fn with_coordinate<L: Level>(x: L, product: L) -> L
-    ensures { means result ≡ arithmetic.times (means x) (means product) }
+    ensures { L.means result ≡ L.arithmetic.times (L.means x) (L.means product) }
 {
     x.mul(product)
 }
 
 // The product of all coordinates of a point.
 pub fn product<L: Level>(point: &[L]) -> L
-    ensures { means result ≡ product arithmetic (map means point.now) }
+    ensures { L.means result ≡ product L.arithmetic (map L.means point.now) }
 {
     let mut product = L::one();
     for i in (0..point.len()).rev() {
@@ -46,8 +46,8 @@ pub fn carry_element<L: Level>(rows: &mut [L], r: usize, slot: &[L], z: &[L], sc
     requires within { r ≤ length slot.now }
     requires points { length z.now ≡ length slot.now }
     requires scratch { length scratch.old ≡ width L.Level.log }
-    ensures rows { lent means rows.new ≡ carry_element arithmetic r (map means slot.now) (map means z.now) }
-    ensures scratch { lent means scratch.new ≡ nothing }
+    ensures rows { lent L.means rows.new ≡ carry_element L.arithmetic r (map L.means slot.now) (map L.means z.now) }
+    ensures scratch { lent L.means scratch.new ≡ nothing }
 {
     let (selector, rho) = rows_apart(slot, r);
     let (z_selector, z_rows) = rows_apart(z, r);
@@ -59,7 +59,7 @@ pub fn carry_element<L: Level>(rows: &mut [L], r: usize, slot: &[L], z: &[L], sc
 fn add_products<L: Level>(rows: &mut [L], point: &[L], other: &[L])
     requires narrow { L.Level.log ≤ 7 }
     requires rows { length rows.old ≡ width L.Level.log }
-    ensures { lent means rows.new ≡ add (lent means rows.old) (exterior (product arithmetic (map means point.now)) (product arithmetic (map means other.now))) }
+    ensures { lent L.means rows.new ≡ add (lent L.means rows.old) (exterior (product L.arithmetic (map L.means point.now)) (product L.arithmetic (map L.means other.now))) }
 {
     add_exterior_product(rows, product(point), product(other));
 }
@@ -72,8 +72,8 @@ pub fn last_element<L: Level>(rows: &mut [L], r: usize, slot: &[L], z: &[L], scr
     requires within { r ≤ length slot.now }
     requires points { length z.now ≡ length slot.now }
     requires scratch { length scratch.old ≡ width L.Level.log }
-    ensures rows { lent means rows.new ≡ last_element arithmetic r (map means slot.now) (map means z.now) }
-    ensures scratch { lent means scratch.new ≡ nothing }
+    ensures rows { lent L.means rows.new ≡ last_element L.arithmetic r (map L.means slot.now) (map L.means z.now) }
+    ensures scratch { lent L.means scratch.new ≡ nothing }
 {
     let (selector, rho) = rows_apart(slot, r);
     let (z_selector, z_rows) = rows_apart(z, r);

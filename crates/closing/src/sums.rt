@@ -13,7 +13,7 @@ use tensor_rows::rows::batch_rows;
 
 // α·carry + α²·last.
 fn with_challenge<L: Level>(alpha: L, carry: L, last: L) -> L
-    ensures { means result ≡ arithmetic.times (means alpha) (plus (means carry) (arithmetic.times (means alpha) (means last))) }
+    ensures { L.means result ≡ L.arithmetic.times (L.means alpha) (plus (L.means carry) (L.arithmetic.times (L.means alpha) (L.means last))) }
 {
     alpha.mul(carry.add(alpha.mul(last)))
 }
@@ -23,7 +23,7 @@ pub fn successor_rows<L: Level>(eq_batch: &[L], alpha: L, carry: &[L], last: &[L
     requires eq_batch { length eq_batch.now ≡ width L.Level.log }
     requires carry { length carry.now ≡ width L.Level.log }
     requires last { length last.now ≡ width L.Level.log }
-    ensures { means result ≡ successor_rows arithmetic (lent means eq_batch.now) (means alpha) (lent means carry.now) (lent means last.now) }
+    ensures { L.means result ≡ successor_rows L.arithmetic (lent L.means eq_batch.now) (L.means alpha) (lent L.means carry.now) (lent L.means last.now) }
 {
     with_challenge(
         alpha,
@@ -37,7 +37,7 @@ fn with_successor_rows<L: Level>(sum: L, eq_batch: &[L], alpha: L, carry: &[L], 
     requires eq_batch { length eq_batch.now ≡ width L.Level.log }
     requires carry { length carry.now ≡ width L.Level.log }
     requires last { length last.now ≡ width L.Level.log }
-    ensures { means result ≡ plus (means sum) (successor_rows arithmetic (lent means eq_batch.now) (means alpha) (lent means carry.now) (lent means last.now)) }
+    ensures { L.means result ≡ plus (L.means sum) (successor_rows L.arithmetic (lent L.means eq_batch.now) (L.means alpha) (lent L.means carry.now) (lent L.means last.now)) }
 {
     sum.add(successor_rows(eq_batch, alpha, carry, last))
 }
@@ -55,10 +55,10 @@ pub fn initial_sum<L: Level>(
     requires tensor { length tensor.now ≡ width L.Level.log }
     requires carry { length carry.now ≡ width L.Level.log }
     requires last { length last.now ≡ width L.Level.log }
-    ensures value { means result ≡ initial_sum arithmetic (lent means eq_batch.now) (steps means stepping) (lent means tensor.now) (lent means carry.now) (lent means last.now) }
+    ensures value { L.means result ≡ initial_sum L.arithmetic (lent L.means eq_batch.now) (steps L.means stepping) (lent L.means tensor.now) (lent L.means carry.now) (lent L.means last.now) }
     ensures weighted { (slot : Point L.Level.log) (n : ℕ) (t : ℕ → Element L.Level.log)
-        → Sent arithmetic (steps means stepping) slot n t (lent means tensor.now) (lent means carry.now) (lent means last.now)
-        → means result ≡ sum_of n (λ i. arithmetic.times (t i) (weight arithmetic (lent means eq_batch.now) slot (steps means stepping) i)) }
+        → Sent L.arithmetic (steps L.means stepping) slot n t (lent L.means tensor.now) (lent L.means carry.now) (lent L.means last.now)
+        → L.means result ≡ sum_of n (λ i. L.arithmetic.times (t i) (weight L.arithmetic (lent L.means eq_batch.now) slot (steps L.means stepping) i)) }
 {
     let sum = batch_rows(tensor, eq_batch);
     match stepping {

@@ -1,6 +1,7 @@
 // An element's coordinates as one number, coordinate u at bit u, and elements made from such numbers.
 // All of it is for levels of at most 128 coordinates.
 #![tactic(auto)]
+
 ghost use Rattle.std.specs.Prelude.{◌≡◌, ◌+◌, ◌*◌, ◌/◌, ◌%◌, ◌^◌, ◌<◌, ◌≤◌};
 ghost use Rattle.level.specs.Bytes.{digits, le_number};
 ghost use Rattle.level.specs.Element.{width, cut};
@@ -33,7 +34,7 @@ fn bytes(number: u128) -> [u8; 16]
 // An element's coordinates.
 pub fn coordinates<L: Level>(x: L) -> u128
     requires { L.Level.log ≤ 7 }
-    ensures { result ≡ (means x).number }
+    ensures { result ≡ (L.means x).number }
 {
     number(x.to_bytes())
 }
@@ -41,7 +42,7 @@ pub fn coordinates<L: Level>(x: L) -> u128
 // The element with those coordinates, bits past the width dropped.
 pub fn from_coordinates<L: Level>(coordinates: u128) -> L
     requires { L.Level.log ≤ 7 }
-    ensures { means result ≡ cut L.Level.log coordinates }
+    ensures { L.means result ≡ cut L.Level.log coordinates }
 {
     L::from_bytes(bytes(coordinates))
 }
@@ -57,7 +58,7 @@ fn bit(u: usize) -> u128
 // The element of which coordinate u alone is set.
 pub fn basis<L: Level>(u: usize) -> L
     requires { (L.Level.log ≤ 7) × (u < 128) }
-    ensures { means result ≡ basis L.Level.log u }
+    ensures { L.means result ≡ basis L.Level.log u }
 {
     from_coordinates(bit(u))
 }

@@ -95,37 +95,37 @@ impl<L: Level> Level for Doubling<L> {
 // What each operation comes to by halves, in the arithmetic of the level below.
 
 fn zero_halves<L: Level>() -> Doubling<L>
-    ensures low { means result.low ≡ zeros log }
-    ensures high { means result.high ≡ zeros log }
+    ensures low { L.means result.low ≡ zeros L.log }
+    ensures high { L.means result.high ≡ zeros L.log }
 {
     Doubling::new(L::zero(), L::zero())
 }
 
 fn one_halves<L: Level>() -> Doubling<L>
-    ensures low { means result.low ≡ arithmetic.unit }
-    ensures high { means result.high ≡ zeros log }
+    ensures low { L.means result.low ≡ L.arithmetic.unit }
+    ensures high { L.means result.high ≡ zeros L.log }
 {
     Doubling::new(L::one(), L::zero())
 }
 
 fn generator_halves<L: Level>() -> Doubling<L>
-    ensures low { means result.low ≡ zeros log }
-    ensures high { means result.high ≡ arithmetic.unit }
+    ensures low { L.means result.low ≡ zeros L.log }
+    ensures high { L.means result.high ≡ L.arithmetic.unit }
 {
     Doubling::new(L::zero(), L::one())
 }
 
 fn sum_halves<L: Level>(x: Doubling<L>, y: Doubling<L>) -> Doubling<L>
-    ensures low { means result.low ≡ plus (means x.low) (means y.low) }
-    ensures high { means result.high ≡ plus (means x.high) (means y.high) }
+    ensures low { L.means result.low ≡ plus (L.means x.low) (L.means y.low) }
+    ensures high { L.means result.high ≡ plus (L.means x.high) (L.means y.high) }
 {
     Doubling::new(x.low.add(y.low), x.high.add(y.high))
 }
 
 // The product by three products of the level below.
 fn product_halves<L: Level>(x: Doubling<L>, y: Doubling<L>) -> Doubling<L>
-    ensures low { means result.low ≡ plus (arithmetic.times (means x.low) (means y.low)) (arithmetic.times (means x.high) (means y.high)) }
-    ensures high { means result.high ≡ high_by_sums arithmetic (means x.low) (means x.high) (means y.low) (means y.high) }
+    ensures low { L.means result.low ≡ plus (L.arithmetic.times (L.means x.low) (L.means y.low)) (L.arithmetic.times (L.means x.high) (L.means y.high)) }
+    ensures high { L.means result.high ≡ high_by_sums L.arithmetic (L.means x.low) (L.means x.high) (L.means y.low) (L.means y.high) }
 {
     let ac = x.low.mul(y.low);
     let be = x.high.mul(y.high);
@@ -135,16 +135,16 @@ fn product_halves<L: Level>(x: Doubling<L>, y: Doubling<L>) -> Doubling<L>
 
 // (0, 1)·(a, b) = (b, a + g·b)
 fn generator_product_halves<L: Level>(x: Doubling<L>) -> Doubling<L>
-    ensures low { means result.low ≡ means x.high }
-    ensures high { means result.high ≡ plus (means x.low) (arithmetic.times arithmetic.root (means x.high)) }
+    ensures low { L.means result.low ≡ L.means x.high }
+    ensures high { L.means result.high ≡ plus (L.means x.low) (L.arithmetic.times L.arithmetic.root (L.means x.high)) }
 {
     Doubling::new(x.high, x.low.add(x.high.mul_generator()))
 }
 
 fn same_halves<L: Level>(x: Doubling<L>, y: Doubling<L>) -> bool
-    ensures low { T result → means x.low ≡ means y.low }
-    ensures high { T result → means x.high ≡ means y.high }
-    ensures found { means x.low ≡ means y.low → means x.high ≡ means y.high → T result }
+    ensures low { T result → L.means x.low ≡ L.means y.low }
+    ensures high { T result → L.means x.high ≡ L.means y.high }
+    ensures found { L.means x.low ≡ L.means y.low → L.means x.high ≡ L.means y.high → T result }
 {
     x.low.equals(y.low) && x.high.equals(y.high)
 }

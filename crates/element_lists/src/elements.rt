@@ -29,7 +29,7 @@ impl<T: Drop> From<AllocFailed<T>> for ElementsFault {
 // The element at place `i` of a text, where a space follows if any character does.
 fn element_at<L: Level>(text: &[u8], i: usize, digits: usize) -> Result<L, ElementsFault>
     requires { (digits ≡ digits_of L.Level.log) × (i * (digits + 1) + digits ≤ length text.now) }
-    ensures { MatchResult result (λ x. Writes (take digits (drop (i * (digits + 1)) text.now)) (means x) × (i * (digits + 1) + digits < length text.now → slice_index text.now (i * (digits + 1) + digits) ≡ 32)) (BadElement L.Level.log text.now i) }
+    ensures { MatchResult result (λ x. Writes (take digits (drop (i * (digits + 1)) text.now)) (L.means x) × (i * (digits + 1) + digits < length text.now → slice_index text.now (i * (digits + 1) + digits) ≡ 32)) (BadElement L.Level.log text.now i) }
 {
     let from = i * (digits + 1);
     let end = from + digits;
@@ -49,7 +49,7 @@ fn element_at<L: Level>(text: &[u8], i: usize, digits: usize) -> Result<L, Eleme
 
 // The elements that a text writes, with single spaces between them.
 pub fn parse_elements<L: Level>(heap: Global, text: &[u8]) -> Result<Vec<L>, ElementsFault>
-    ensures { MatchResult result (λ v. ElementsOf text.now (map means v.items)) (BadElements L.Level.log text.now) }
+    ensures { MatchResult result (λ v. ElementsOf text.now (map L.means v.items)) (BadElements L.Level.log text.now) }
 {
     let digits = 2 * byte_count::<L>();
     let mut elements = Vec::new(heap);

@@ -32,7 +32,7 @@ pub fn byte_count<L: Level>() -> usize
 
 // The text of an element.
 pub fn element_text<L: Level>(heap: Global, x: L) -> Result<String, AllocError>
-    ensures { IfOk result (λ s. string_bytes s ≡ element_text (means x)) }
+    ensures { IfOk result (λ s. string_bytes s ≡ element_text (L.means x)) }
 {
     let bytes = x.to_bytes();
     hex_text(heap, &bytes[0..byte_count::<L>()])
@@ -66,7 +66,7 @@ fn parse_bytes(text: &[u8], count: usize) -> Result<[u8; 16], usize>
 
 // The element that a text writes.
 pub fn parse_element<L: Level>(text: &[u8]) -> Result<L, TextFault>
-    ensures { MatchResult result (λ x. Writes text.now (means x)) (BadText (2 * byte_count L.Level.log) text.now) }
+    ensures { MatchResult result (λ x. Writes text.now (L.means x)) (BadText (2 * byte_count L.Level.log) text.now) }
 {
     let count = byte_count::<L>();
     let expected = 2 * count;

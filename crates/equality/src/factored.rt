@@ -36,7 +36,7 @@ fn halves<L: Level>(point: &[L]) -> (&[L], &[L])
 pub fn factor<L: Level>(outer: &mut [L], inner: &mut [L], point: &[L], start: L)
     requires outer_len { length outer.old ≡ 2 ^ (length point.now - inner_count (length point.now)) }
     requires inner_len { length inner.old ≡ 2 ^ inner_count (length point.now) }
-    ensures { Factors means arithmetic (means start) (map means point.now) outer.new inner.new }
+    ensures { Factors L.means L.arithmetic (L.means start) (map L.means point.now) outer.new inner.new }
 {
     let (first, last) = halves(point);
     equality_table(outer, first, L::one());
@@ -46,7 +46,7 @@ pub fn factor<L: Level>(outer: &mut [L], inner: &mut [L], point: &[L], start: L)
 // What stands at a place of a table.
 fn at<L: Level>(table: &[L], i: usize) -> L
     requires { i < length table.now }
-    ensures { means result ≡ lent means table.now i }
+    ensures { L.means result ≡ lent L.means table.now i }
 {
     table[i]
 }
@@ -93,7 +93,7 @@ impl<'a, L: Level> FactoredEquality<'a, L> {
     // The product of an entry of each factor.
     fn product(&self, block: usize, place: usize) -> L
         requires { (block < length self.now.outer.now) × (place < length self.now.inner.now) }
-        ensures { means result ≡ arithmetic.times (lent means self.now.outer.now block) (lent means self.now.inner.now place) }
+        ensures { L.means result ≡ L.arithmetic.times (lent L.means self.now.outer.now block) (lent L.means self.now.inner.now place) }
     {
         at(self.outer, block).mul(at(self.inner, place))
     }
@@ -110,7 +110,7 @@ impl<'a, L: Level> FactoredEquality<'a, L> {
     // The last entry of a block.
     fn last_entry(&self, block: usize) -> L
         requires { (block < length self.now.outer.now) × (0 < length self.now.inner.now) }
-        ensures { means result ≡ arithmetic.times (lent means self.now.outer.now block) (lent means self.now.inner.now (length self.now.inner.now - 1)) }
+        ensures { L.means result ≡ L.arithmetic.times (lent L.means self.now.outer.now block) (lent L.means self.now.inner.now (length self.now.inner.now - 1)) }
     {
         self.product(block, self.block_len() - 1)
     }
@@ -118,7 +118,7 @@ impl<'a, L: Level> FactoredEquality<'a, L> {
     // Entry `index` of the table.
     pub fn entry(&self, index: usize) -> L
         requires { index < length self.now.outer.now * length self.now.inner.now }
-        ensures { (s : Element L.Level.log) (p : Point L.Level.log) → Factors means arithmetic s p self.now.outer.now self.now.inner.now → means result ≡ entry arithmetic s p index }
+        ensures { (s : Element L.Level.log) (p : Point L.Level.log) → Factors L.means L.arithmetic s p self.now.outer.now self.now.inner.now → L.means result ≡ entry L.arithmetic s p index }
     {
         let (block, place) = self.position(index);
         self.product(block, place)
@@ -127,8 +127,8 @@ impl<'a, L: Level> FactoredEquality<'a, L> {
     // The entry before block `index` begins, and zero at the first block.
     pub fn before_block(&self, index: usize) -> L
         requires { (index ≤ length self.now.outer.now) × (0 < length self.now.inner.now) }
-        ensures first { index ≡ 0 → means result ≡ zeros L.Level.log }
-        ensures later { (s : Element L.Level.log) (p : Point L.Level.log) → Factors means arithmetic s p self.now.outer.now self.now.inner.now → 0 < index → means result ≡ entry arithmetic s p (index * length self.now.inner.now - 1) }
+        ensures first { index ≡ 0 → L.means result ≡ zeros L.Level.log }
+        ensures later { (s : Element L.Level.log) (p : Point L.Level.log) → Factors L.means L.arithmetic s p self.now.outer.now self.now.inner.now → 0 < index → L.means result ≡ entry L.arithmetic s p (index * length self.now.inner.now - 1) }
     {
         if index == 0 {
             return L::zero();

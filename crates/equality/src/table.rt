@@ -7,8 +7,8 @@ use level::level::Level;
 
 // An entry split by a coordinate x: what it is at the coordinate's bit 0, and at its bit 1. One product.
 fn split<L: Level>(entry: L, x: L) -> (L, L)
-    ensures low { means result.0 ≡ plus (means entry) (arithmetic.times (means x) (means entry)) }
-    ensures high { means result.1 ≡ arithmetic.times (means x) (means entry) }
+    ensures low { L.means result.0 ≡ plus (L.means entry) (L.arithmetic.times (L.means x) (L.means entry)) }
+    ensures high { L.means result.1 ≡ L.arithmetic.times (L.means x) (L.means entry) }
 {
     let high = x.mul(entry);
     (entry.add(high), high)
@@ -17,7 +17,7 @@ fn split<L: Level>(entry: L, x: L) -> (L, L)
 // Widens a table of `half` entries by one coordinate at a more significant bit.
 fn widen<L: Level>(table: &mut [L], half: usize, x: L)
     requires { half + half ≤ length table.old }
-    ensures { Widened arithmetic (means x) half (lent means table.old) (lent means table.new) }
+    ensures { Widened L.arithmetic (L.means x) half (lent L.means table.old) (lent L.means table.new) }
 {
     for i in 0..half {
         let (low, high) = split(table[i], x);
@@ -30,7 +30,7 @@ fn widen<L: Level>(table: &mut [L], half: usize, x: L)
 // time, from the last to the first.
 pub fn equality_table<L: Level>(table: &mut [L], point: &[L], start: L)
     requires { length table.old ≡ 2 ^ length point.now }
-    ensures { Tabulated means arithmetic (means start) (map means point.now) table.new }
+    ensures { Tabulated L.means L.arithmetic (L.means start) (map L.means point.now) table.new }
 {
     table[0] = start;
     let mut half = 1;

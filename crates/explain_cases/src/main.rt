@@ -1,5 +1,6 @@
 // Explains several inputs, between which lines `--` stand, with such lines between the answers.
 #![tactic(auto)]
+
 use explanation::explain::explain;
 use std::io;
 use std::io::{BufRead, BufReader};

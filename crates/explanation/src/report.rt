@@ -23,7 +23,7 @@ fn batched_lines<'a, L: Level>(
     requires narrow { L.Level.log ≤ 7 }
     requires short { length problem.now.point.items < 64 }
     requires opened { opening (told L.Level.log) (length problem.now.point.items) problem.now.view ≡ None }
-    ensures { Reported result (string_bytes out.new) (string_bytes out.old ++ batched_text arithmetic (task_of means problem.now) (Some (map means batching.now))) }
+    ensures { Reported result (string_bytes out.new) (string_bytes out.old ++ batched_text L.arithmetic (task_of L.means problem.now) (Some (map L.means batching.now))) }
 {
     let bits = problem.bits.as_slice();
     let point = problem.point.as_slice();
@@ -42,7 +42,7 @@ fn opened_lines<L: Level>(
     requires narrow { L.Level.log ≤ 7 }
     requires few { variables ≤ 24 }
     requires packed { variables ≡ variables_of L.Level.log (length problem.now.bits.items) }
-    ensures { Reported result (string_bytes out.new) (string_bytes out.old ++ opened_text arithmetic (task_of means problem.now)) }
+    ensures { Reported result (string_bytes out.new) (string_bytes out.old ++ opened_text L.arithmetic (task_of L.means problem.now)) }
 {
     let bits = problem.bits.as_slice();
     let point = problem.point.as_slice();
@@ -57,7 +57,7 @@ fn opened_lines<L: Level>(
 // Adds the lines of a problem, until a step is refused.
 fn problem_lines<L: Level>(heap: Global, out: &mut String, problem: &Problem<L>) -> Result<(), Stop>
     requires { length problem.now.bits.items ≤ 2 ^ 24 }
-    ensures { Reported result (string_bytes out.new) (string_bytes out.old ++ report_text arithmetic (task_of means problem.now)) }
+    ensures { Reported result (string_bytes out.new) (string_bytes out.old ++ report_text L.arithmetic (task_of L.means problem.now)) }
 {
     let bits = problem.bits.as_slice();
     let variables = packed_variables::<L>(bits)?;
@@ -68,7 +68,7 @@ fn problem_lines<L: Level>(heap: Global, out: &mut String, problem: &Problem<L>)
 // The report of a problem: its lines, and a last one where a step is refused.
 pub fn report<L: Level>(heap: Global, problem: &Problem<L>) -> Result<String, AllocError>
     requires { length problem.now.bits.items ≤ 2 ^ 24 }
-    ensures { IfOk result (λ s. string_bytes s ≡ report_text arithmetic (task_of means problem.now)) }
+    ensures { IfOk result (λ s. string_bytes s ≡ report_text L.arithmetic (task_of L.means problem.now)) }
 {
     let mut out = String::new(heap);
     let lines = problem_lines(heap, &mut out, problem);

@@ -37,9 +37,9 @@ fn weight_lines<L: Level>(
     batched: &BatchedSlot<L>,
 ) -> Result<(), AllocError>
     requires narrow { L.Level.log ≤ 7 }
-    requires rows { RowsWithin (steps means batched.now.stepping) (length batched.now.slot.now) }
+    requires rows { RowsWithin (steps L.means batched.now.stepping) (length batched.now.slot.now) }
     requires short { length batched.now.slot.now < 64 }
-    ensures { OnOk result (string_bytes out.new ≡ string_bytes out.old ++ lines_below (2 ^ length batched.now.slot.now) (weight_line arithmetic (batching_of means batched.now))) }
+    ensures { OnOk result (string_bytes out.new ≡ string_bytes out.old ++ lines_below (2 ^ length batched.now.slot.now) (weight_line L.arithmetic (batching_of L.means batched.now))) }
 {
     for i in 0..1 << batched.slot.len() {
         let x = weight(batched.batching, batched.slot, batched.stepping, i);
@@ -55,9 +55,9 @@ pub(crate) fn batch_lines<L: Level>(
     batched: &BatchedSlot<L>,
 ) -> Result<(), AllocError>
     requires narrow { L.Level.log ≤ 7 }
-    requires rows { RowsWithin (steps means batched.now.stepping) (length batched.now.slot.now) }
+    requires rows { RowsWithin (steps L.means batched.now.stepping) (length batched.now.slot.now) }
     requires short { length batched.now.slot.now < 64 }
-    ensures { OnOk result (string_bytes out.new ≡ string_bytes out.old ++ batching_text arithmetic (batching_of means batched.now)) }
+    ensures { OnOk result (string_bytes out.new ≡ string_bytes out.old ++ batching_text L.arithmetic (batching_of L.means batched.now)) }
 {
     element_line(heap, out, "initial", batched.initial)?;
     weight_lines(heap, out, batched)?;
@@ -72,9 +72,9 @@ pub(crate) fn closing_lines<L: Level>(
     closings: &[Vec<L>],
 ) -> Result<(), Stop>
     requires narrow { L.Level.log ≤ 7 }
-    requires rows { RowsWithin (steps means batched.now.stepping) (length batched.now.slot.now) }
+    requires rows { RowsWithin (steps L.means batched.now.stepping) (length batched.now.slot.now) }
     requires short { length batched.now.slot.now < 64 }
-    ensures { Reported result (string_bytes out.new) (string_bytes out.old ++ closing_text arithmetic (batching_of means batched.now) (map (λ v. map means v.items) closings.now)) }
+    ensures { Reported result (string_bytes out.new) (string_bytes out.old ++ closing_text L.arithmetic (batching_of L.means batched.now) (map (λ v. map L.means v.items) closings.now)) }
 {
     for z in closings {
         element_line(heap, out, "closing", close(batched, z.as_slice())?)?;

@@ -35,7 +35,7 @@ pub struct BatchedSlot<'a, L> {
 // The successor value, where there is a view.
 fn successor<L: Level>(bits: &[u8], point: &[L], view: Option<usize>) -> Option<L>
     requires { (opening (told L.Level.log) (length point.now) view ≡ None) × (length point.now < 64) }
-    ensures { option_map means result ≡ option_map (λ q. multilinear arithmetic (λ c. standing arithmetic (one_row_on q (cell bits.now) c)) (map means point.now)) view }
+    ensures { option_map L.means result ≡ option_map (λ q. multilinear L.arithmetic (λ c. standing L.arithmetic (one_row_on q (cell bits.now) c)) (map L.means point.now)) view }
 {
     match view {
         Some(q) => Some(successor_value(bits, point, q)),
@@ -53,7 +53,7 @@ pub(crate) fn open<L: Level>(
     requires narrow { L.Level.log ≤ 7 }
     requires few { variables ≤ 24 }
     ensures refusal { refused ring_switch_refusal result ≡ open_refusal L.Level.log variables (length point.now) view }
-    ensures opened { IfOk result (λ o. values_of means o ≡ values_at arithmetic (cell bits.now) (map means point.now) view) }
+    ensures opened { IfOk result (λ o. values_of L.means o ≡ values_at L.arithmetic (cell bits.now) (map L.means point.now) view) }
 {
     check_opening::<L>(point.len(), view)?;
     check_width(point.len() - usize::from(L::log_width()), variables)?;
@@ -78,8 +78,8 @@ pub(crate) fn batch<'a, L: Level>(
     requires short { length point.now < 64 }
     requires opened { opening (told L.Level.log) (length point.now) view ≡ None }
     ensures refusal { refused ring_switch_refusal result ≡ batch_refusal L.Level.log view challenge (length batching.now) }
-    ensures batched { IfOk result (λ b. batching_of means b ≡ slot_batching arithmetic (cell bits.now) (map means point.now) view (map means batching.now) (option_map means challenge)) }
-    ensures rows { IfOk result (λ b. RowsWithin (steps means b.stepping) (length b.slot.now)) }
+    ensures batched { IfOk result (λ b. batching_of L.means b ≡ slot_batching L.arithmetic (cell bits.now) (map L.means point.now) view (map L.means batching.now) (option_map L.means challenge)) }
+    ensures rows { IfOk result (λ b. RowsWithin (steps L.means b.stepping) (length b.slot.now)) }
     ensures short { IfOk result (λ b. length b.slot.now < 64) }
 {
     let rows = kept_row_variables::<L>(view);
@@ -98,10 +98,10 @@ pub(crate) fn batch<'a, L: Level>(
 // The closing value of a batching at a point.
 pub(crate) fn close<L: Level>(batched: &BatchedSlot<L>, z: &[L]) -> Result<L, BitRingSwitchError>
     requires narrow { L.Level.log ≤ 7 }
-    requires rows { RowsWithin (steps means batched.now.stepping) (length batched.now.slot.now) }
+    requires rows { RowsWithin (steps L.means batched.now.stepping) (length batched.now.slot.now) }
     requires short { length batched.now.slot.now < 64 }
     ensures refusal { refused ring_switch_refusal result ≡ closing (length batched.now.slot.now) (length z.now) }
-    ensures value { IfOk result (λ x. means x ≡ closing_value arithmetic (equality arithmetic (map means batched.now.batching.now)) (map means batched.now.slot.now) (steps means batched.now.stepping) (map means z.now)) }
+    ensures value { IfOk result (λ x. L.means x ≡ closing_value L.arithmetic (equality L.arithmetic (map L.means batched.now.batching.now)) (map L.means batched.now.slot.now) (steps L.means batched.now.stepping) (map L.means z.now)) }
 {
     check_closing(batched.slot.len(), z.len())?;
     Ok(closing_value(batched.batching, batched.slot, batched.stepping, z))

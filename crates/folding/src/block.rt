@@ -40,7 +40,7 @@ fn add_block<L: Level>(
     requires terms { length right.now ≡ length left.now.left.now }
     requires rows { length rows.old ≡ width L.Level.log }
     requires scratch { length scratch.old ≡ 256 * bytes L.Level.log + width L.Level.log }
-    ensures { lent means rows.new ≡ add (lent means rows.old) (scale_columns arithmetic (means weight) (λ u. sum (length left.now.left.now) (λ j. exterior (lent means left.now.left.now j) (lent means right.now j) u))) }
+    ensures { lent L.means rows.new ≡ add (lent L.means rows.old) (scale_columns L.arithmetic (L.means weight) (λ u. sum (length left.now.left.now) (λ j. exterior (lent L.means left.now.left.now j) (lent L.means right.now j) u))) }
 {
     let (buckets, sum) = scratch.split_at_mut(bucket_count::<L>());
     left.sum(right, buckets, sum);
@@ -69,7 +69,7 @@ pub(crate) fn add_blocks<L: Level>(
     requires left { length left.now.left.now ≡ length equality.now.inner.now }
     requires rows { length rows.old ≡ width L.Level.log }
     requires scratch { length scratch.old ≡ 256 * bytes L.Level.log + width L.Level.log }
-    ensures { lent means rows.new ≡ with_all (lent means rows.old) (λ b. scale_columns arithmetic (lent means equality.now.outer.now b) (block (length equality.now.inner.now) (lent means left.now.left.now) (lent means values.now) b)) (length equality.now.outer.now) }
+    ensures { lent L.means rows.new ≡ with_all (lent L.means rows.old) (λ b. scale_columns L.arithmetic (lent L.means equality.now.outer.now b) (block (length equality.now.inner.now) (lent L.means left.now.left.now) (lent L.means values.now) b)) (length equality.now.outer.now) }
 {
     let len = equality.block_len();
     let outer = equality.outer;

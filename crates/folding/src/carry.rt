@@ -38,7 +38,7 @@ fn add_entering<L: Level>(
     requires filled { 0 < length equality.now.inner.now }
     requires values { length values.now ≡ length equality.now.outer.now * length equality.now.inner.now }
     requires rows { length rows.old ≡ width L.Level.log }
-    ensures { (s : Element L.Level.log) (p : Point L.Level.log) → Factors means arithmetic s p equality.now.outer.now equality.now.inner.now → lent means rows.new ≡ add (lent means rows.old) (entering kept (length equality.now.inner.now) (entry arithmetic s p) (lent means values.now) b) }
+    ensures { (s : Element L.Level.log) (p : Point L.Level.log) → Factors L.means L.arithmetic s p equality.now.outer.now equality.now.inner.now → lent L.means rows.new ≡ add (lent L.means rows.old) (entering kept (length equality.now.inner.now) (entry L.arithmetic s p) (lent L.means values.now) b) }
 {
     let first = b * equality.block_len();
     if !starts_column(kept, first) {
@@ -58,7 +58,7 @@ fn add_all_entering<L: Level>(
     requires filled { 0 < length equality.now.inner.now }
     requires values { length values.now ≡ length equality.now.outer.now * length equality.now.inner.now }
     requires rows { length rows.old ≡ width L.Level.log }
-    ensures { (s : Element L.Level.log) (p : Point L.Level.log) → Factors means arithmetic s p equality.now.outer.now equality.now.inner.now → lent means rows.new ≡ with_all (lent means rows.old) (entering kept (length equality.now.inner.now) (entry arithmetic s p) (lent means values.now)) (length equality.now.outer.now) }
+    ensures { (s : Element L.Level.log) (p : Point L.Level.log) → Factors L.means L.arithmetic s p equality.now.outer.now equality.now.inner.now → lent L.means rows.new ≡ with_all (lent L.means rows.old) (entering kept (length equality.now.inner.now) (entry L.arithmetic s p) (lent L.means values.now)) (length equality.now.outer.now) }
 {
     for b in 0..equality.outer.len() {
         add_entering(rows, values, equality, kept, b);
@@ -84,9 +84,9 @@ pub fn carry_over<L: Level>(
     requires shifted { length shifted_inner.old ≡ length equality.now.inner.now }
     requires rows { length rows.old ≡ width L.Level.log }
     requires scratch { length scratch.old ≡ 256 * bytes L.Level.log + width L.Level.log }
-    ensures rows { (s : Element L.Level.log) (p : Point L.Level.log) → Factors means arithmetic s p equality.now.outer.now equality.now.inner.now → lent means rows.new ≡ carry kept (2 ^ length p) (entry arithmetic s p) (lent means values.now) }
-    ensures shifted { (j : ℕ) → j < length equality.now.inner.now → lent means shifted_inner.new j ≡ where_set (not (starts kept j)) (lent means equality.now.inner.now (j - 1)) }
-    ensures scratch { lent means scratch.new ≡ nothing }
+    ensures rows { (s : Element L.Level.log) (p : Point L.Level.log) → Factors L.means L.arithmetic s p equality.now.outer.now equality.now.inner.now → lent L.means rows.new ≡ carry kept (2 ^ length p) (entry L.arithmetic s p) (lent L.means values.now) }
+    ensures shifted { (j : ℕ) → j < length equality.now.inner.now → lent L.means shifted_inner.new j ≡ where_set (not (starts kept j)) (lent L.means equality.now.inner.now (j - 1)) }
+    ensures scratch { lent L.means scratch.new ≡ nothing }
 {
     clear(rows);
     shifted(equality.inner, kept, shifted_inner);

@@ -24,7 +24,7 @@ fn add_entry<L: Level>(rows: &mut [L], values: &[L], equality: &FactoredEquality
     requires place { w < length values.now }
     requires values { length values.now ≡ length equality.now.outer.now * length equality.now.inner.now }
     requires rows { length rows.old ≡ width L.Level.log }
-    ensures { (s : Element L.Level.log) (p : Point L.Level.log) → Factors means arithmetic s p equality.now.outer.now equality.now.inner.now → lent means rows.new ≡ add (lent means rows.old) (exterior (entry arithmetic s p w) (lent means values.now w)) }
+    ensures { (s : Element L.Level.log) (p : Point L.Level.log) → Factors L.means L.arithmetic s p equality.now.outer.now equality.now.inner.now → lent L.means rows.new ≡ add (lent L.means rows.old) (exterior (entry L.arithmetic s p w) (lent L.means values.now w)) }
 {
     add_exterior_product(rows, equality.entry(w), values[w]);
 }
@@ -42,7 +42,7 @@ pub fn last_over<L: Level>(
     requires columns { length values.now % 2 ^ kept ≡ 0 }
     requires values { length values.now ≡ length equality.now.outer.now * length equality.now.inner.now }
     requires rows { length rows.old ≡ width L.Level.log }
-    ensures { (s : Element L.Level.log) (p : Point L.Level.log) → Factors means arithmetic s p equality.now.outer.now equality.now.inner.now → lent means rows.new ≡ last kept (2 ^ length p) (entry arithmetic s p) (lent means values.now) }
+    ensures { (s : Element L.Level.log) (p : Point L.Level.log) → Factors L.means L.arithmetic s p equality.now.outer.now equality.now.inner.now → lent L.means rows.new ≡ last kept (2 ^ length p) (entry L.arithmetic s p) (lent L.means values.now) }
 {
     clear(rows);
     for c in 0..values.len() >> kept {

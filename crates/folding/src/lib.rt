@@ -1,6 +1,7 @@
 // Tensors of a slot folded block by block: the equality table is held in two factors, each block is summed against what all blocks share,
 // and the block's own weight scales the columns of that sum once. `tensor` folds the tensor, `carry` and `last` the successor tensors.
 #![tactic(auto)]
+
 pub mod block;
 pub mod carry;
 pub mod last;

@@ -42,8 +42,8 @@ pub fn tensor<L: Level>(
     requires slot { start + length equality.now.outer.now * length equality.now.inner.now ≤ length packed.now }
     requires rows { length rows.old ≡ width L.Level.log }
     requires scratch { length scratch.old ≡ 256 * bytes L.Level.log + width L.Level.log }
-    ensures rows { (p : Point L.Level.log) (view : View) (bits : ℕ → ℕ) → Opens means arithmetic p view bits packed.now start equality.now.outer.now equality.now.inner.now → lent means rows.new ≡ opened arithmetic p bits }
-    ensures scratch { lent means scratch.new ≡ nothing }
+    ensures rows { (p : Point L.Level.log) (view : View) (bits : ℕ → ℕ) → Opens L.means L.arithmetic p view bits packed.now start equality.now.outer.now equality.now.inner.now → lent L.means rows.new ≡ opened L.arithmetic p bits }
+    ensures scratch { lent L.means scratch.new ≡ nothing }
 {
     tensor_over(
         slot_values(packed, start, equality),
@@ -72,9 +72,9 @@ pub fn carry<L: Level>(
     requires shifted { length shifted_inner.old ≡ length equality.now.inner.now }
     requires rows { length rows.old ≡ width L.Level.log }
     requires scratch { length scratch.old ≡ 256 * bytes L.Level.log + width L.Level.log }
-    ensures rows { (p : Point L.Level.log) (q : ℕ) (bits : ℕ → ℕ) → Opens means arithmetic p (Some q) bits packed.now start equality.now.outer.now equality.now.inner.now → q ≤ length p → kept ≡ q - L.Level.log → lent means rows.new ≡ opened_carry arithmetic p q bits }
-    ensures shifted { lent means shifted_inner.new ≡ nothing }
-    ensures scratch { lent means scratch.new ≡ nothing }
+    ensures rows { (p : Point L.Level.log) (q : ℕ) (bits : ℕ → ℕ) → Opens L.means L.arithmetic p (Some q) bits packed.now start equality.now.outer.now equality.now.inner.now → q ≤ length p → kept ≡ q - L.Level.log → lent L.means rows.new ≡ opened_carry L.arithmetic p q bits }
+    ensures shifted { lent L.means shifted_inner.new ≡ nothing }
+    ensures scratch { lent L.means scratch.new ≡ nothing }
 {
     let values = slot_values(packed, start, equality);
     carry_over(values, equality, kept, shifted_inner, rows, scratch);
@@ -94,7 +94,7 @@ pub fn last<L: Level>(
     requires slot { start + length equality.now.outer.now * length equality.now.inner.now ≤ length packed.now }
     requires columns { length equality.now.outer.now * length equality.now.inner.now % 2 ^ kept ≡ 0 }
     requires rows { length rows.old ≡ width L.Level.log }
-    ensures { (p : Point L.Level.log) (q : ℕ) (bits : ℕ → ℕ) → Opens means arithmetic p (Some q) bits packed.now start equality.now.outer.now equality.now.inner.now → q ≤ length p → kept ≡ q - L.Level.log → lent means rows.new ≡ opened_last arithmetic p q bits }
+    ensures { (p : Point L.Level.log) (q : ℕ) (bits : ℕ → ℕ) → Opens L.means L.arithmetic p (Some q) bits packed.now start equality.now.outer.now equality.now.inner.now → q ≤ length p → kept ≡ q - L.Level.log → lent L.means rows.new ≡ opened_last L.arithmetic p q bits }
 {
     last_over(slot_values(packed, start, equality), equality, kept, rows);
 }

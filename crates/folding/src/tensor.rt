@@ -26,8 +26,8 @@ pub fn tensor_over<L: Level>(
     requires values { length values.now ≡ length equality.now.outer.now * length equality.now.inner.now }
     requires rows { length rows.old ≡ width L.Level.log }
     requires scratch { length scratch.old ≡ 256 * bytes L.Level.log + width L.Level.log }
-    ensures rows { (s : Element L.Level.log) (p : Point L.Level.log) → Factors means arithmetic s p equality.now.outer.now equality.now.inner.now → lent means rows.new ≡ tensor (2 ^ length p) (entry arithmetic s p) (lent means values.now) }
-    ensures scratch { lent means scratch.new ≡ nothing }
+    ensures rows { (s : Element L.Level.log) (p : Point L.Level.log) → Factors L.means L.arithmetic s p equality.now.outer.now equality.now.inner.now → lent L.means rows.new ≡ tensor (2 ^ length p) (entry L.arithmetic s p) (lent L.means values.now) }
+    ensures scratch { lent L.means scratch.new ≡ nothing }
 {
     clear(rows);
     add_blocks(

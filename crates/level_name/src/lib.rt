@@ -1,5 +1,6 @@
 // The levels that a letter names, wherever a text or a slip of bytes chooses one.
 #![tactic(auto)]
+
 ghost use Rattle.std.specs.Prelude.{◌≡◌};
 ghost use Rattle.level_name.specs.Names.{named};
 

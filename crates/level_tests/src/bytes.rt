@@ -13,7 +13,7 @@ pub fn first(byte: u8) -> [u8; 16]
 
 // The product of the elements that two bytes make.
 pub fn product<L: Level>(a: u8, b: u8) -> [u8; 16]
-    ensures { result ≡ sixteen (arithmetic.times (from_sixteen log (a ∷ replicate 15 0)) (from_sixteen log (b ∷ replicate 15 0))) }
+    ensures { result ≡ sixteen (L.arithmetic.times (from_sixteen L.log (a ∷ replicate 15 0)) (from_sixteen L.log (b ∷ replicate 15 0))) }
 {
     L::from_bytes(first(a))
         .mul(L::from_bytes(first(b)))
@@ -22,21 +22,21 @@ pub fn product<L: Level>(a: u8, b: u8) -> [u8; 16]
 
 // The bytes of the element that sixteen bytes make.
 pub fn round_trip<L: Level>(bytes: [u8; 16]) -> [u8; 16]
-    ensures { result ≡ sixteen (from_sixteen log bytes) }
+    ensures { result ≡ sixteen (from_sixteen L.log bytes) }
 {
     L::from_bytes(bytes).to_bytes()
 }
 
 // The same two doublings up.
 pub fn round_trip_above<L: Level>(bytes: [u8; 16]) -> [u8; 16]
-    ensures { result ≡ sixteen (from_sixteen (suc (suc log)) bytes) }
+    ensures { result ≡ sixteen (from_sixteen (suc (suc L.log)) bytes) }
 {
     round_trip::<Doubling<Doubling<L>>>(bytes)
 }
 
 // The log widths that a level and two doublings of it tell.
 pub fn widths<L: Level>() -> [u8; 3]
-    ensures { result ≡ min log 8 ∷ min (suc log) 8 ∷ min (suc (suc log)) 8 ∷ [] }
+    ensures { result ≡ min L.log 8 ∷ min (suc L.log) 8 ∷ min (suc (suc L.log)) 8 ∷ [] }
 {
     [
         L::log_width(),

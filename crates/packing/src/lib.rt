@@ -1,6 +1,7 @@
 // A table of bits packed into elements in lent memory: the bytes of the table, an element's worth at a time.
 // At a level of whole bytes this moves no bit: an element's coordinates are the bits of its bytes.
 #![tactic(auto)]
+
 ghost use Rattle.std.specs.Prelude.{◌≡◌, ◌+◌, ◌*◌, ◌/◌, ◌≤◌, ◌++◌, length, take, drop, replicate, MatchResult};
 ghost use Rattle.multilinear.specs.Cells.{cell, packed};
 ghost use Rattle.packing.specs.Packing.{Packed};
@@ -33,7 +34,7 @@ fn bytes_at(bits: &[u8], start: usize, len: usize) -> [u8; 16]
 fn element_at<L: Level>(bits: &[u8], w: usize) -> L
     requires level { (3 ≤ L.Level.log) × (L.Level.log ≤ 7) }
     requires within { (w + 1) * stride L.Level.log ≤ length bits.now }
-    ensures { means result ≡ packed L.Level.log (cell bits.now) w }
+    ensures { L.means result ≡ packed L.Level.log (cell bits.now) w }
 {
     let len = element_len::<L>();
     L::from_bytes(bytes_at(bits, w * len, len))
@@ -44,7 +45,7 @@ pub fn pack_elements<L: Level>(bits: &[u8], elements: &mut [L]) -> usize
     requires level { (3 ≤ L.Level.log) × (L.Level.log ≤ 7) }
     requires room { length bits.now / stride L.Level.log ≤ length elements.old }
     ensures count { result ≡ length bits.now / stride L.Level.log }
-    ensures packed { Packed means bits.now result elements.old elements.new }
+    ensures packed { Packed L.means bits.now result elements.old elements.new }
 {
     let count = bits.len() / element_len::<L>();
     for w in 0..count {
@@ -59,7 +60,7 @@ pub fn pack<L: Level>(bits: &[u8], elements: &mut [L]) -> Result<usize, BitPacki
     requires { length bits.now / stride (told L.Level.log) ≤ length elements.old }
     ensures refusal { refused packing_refusal result ≡ packing (told L.Level.log) (length bits.now) }
     ensures cases { MatchResult result
-        (λ count. (count ≡ length bits.now / stride (told L.Level.log)) × Packed means bits.now count elements.old elements.new)
+        (λ count. (count ≡ length bits.now / stride (told L.Level.log)) × Packed L.means bits.now count elements.old elements.new)
         (λ _. elements.new ≡ elements.old) }
 {
     check_packing::<L>(bits.len())?;

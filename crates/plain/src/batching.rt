@@ -19,7 +19,7 @@ use level::level::Level;
 // s(i): the sum of the batching entries of the set coordinates of entry i of the slot's equality table.
 fn settled_weight<L: Level>(batching: &[L], slot: &[L], i: usize) -> L
     requires { L.Level.log ≤ 7 }
-    ensures { means result ≡ settled arithmetic (equality arithmetic (map means batching.now)) (map means slot.now) i }
+    ensures { L.means result ≡ settled L.arithmetic (equality L.arithmetic (map L.means batching.now)) (map L.means slot.now) i }
 {
     let set = coordinates(equality_entry(slot, i));
     let mut sum = L::zero();
@@ -31,7 +31,7 @@ fn settled_weight<L: Level>(batching: &[L], slot: &[L], i: usize) -> L
 
 // x where the test holds, else zero.
 pub fn where_set<L: Level>(test: bool, x: L) -> L
-    ensures { means result ≡ where_set test (means x) }
+    ensures { L.means result ≡ where_set test (L.means x) }
 {
     if test { x } else { L::zero() }
 }
@@ -39,7 +39,7 @@ pub fn where_set<L: Level>(test: bool, x: L) -> L
 // The weight of slot entry i with successor tensors, from s(i) and s(i - 1).
 fn stepped_weight<L: Level>(stepping: Stepping<L>, here: L, before: L, i: usize) -> L
     requires { stepping.rows < 64 }
-    ensures { means result ≡ plus (plus (means here) (where_set (not (starts stepping.rows i)) (arithmetic.times (means stepping.challenge) (means before)))) (where_set (ends stepping.rows i) (arithmetic.times (arithmetic.times (means stepping.challenge) (means stepping.challenge)) (means here))) }
+    ensures { L.means result ≡ plus (plus (L.means here) (where_set (not (starts stepping.rows i)) (L.arithmetic.times (L.means stepping.challenge) (L.means before)))) (where_set (ends stepping.rows i) (L.arithmetic.times (L.arithmetic.times (L.means stepping.challenge) (L.means stepping.challenge)) (L.means here))) }
 {
     let alpha = stepping.challenge;
     let carried = where_set(!starts_column(stepping.rows, i), alpha.mul(before));
@@ -50,8 +50,8 @@ fn stepped_weight<L: Level>(stepping: Stepping<L>, here: L, before: L, i: usize)
 // The weight of slot entry i: s(i), and with successor tensors also α·s(i - 1) unless i starts a column, and α²·s(i) if i ends one.
 pub fn weight<L: Level>(batching: &[L], slot: &[L], stepping: Option<Stepping<L>>, i: usize) -> L
     requires narrow { L.Level.log ≤ 7 }
-    requires rows { RowsWithin (steps means stepping) 63 }
-    ensures { means result ≡ weight arithmetic (equality arithmetic (map means batching.now)) (map means slot.now) (steps means stepping) i }
+    requires rows { RowsWithin (steps L.means stepping) 63 }
+    ensures { L.means result ≡ weight L.arithmetic (equality L.arithmetic (map L.means batching.now)) (map L.means slot.now) (steps L.means stepping) i }
 {
     let here = settled_weight(batching, slot, i);
     match stepping {
@@ -73,9 +73,9 @@ fn slot_term<L: Level>(
     i: usize,
 ) -> L
     requires narrow { L.Level.log ≤ 7 }
-    requires rows { RowsWithin (steps means stepping) 63 }
+    requires rows { RowsWithin (steps L.means stepping) 63 }
     requires cells { (w + 1) * width L.Level.log ≤ 2 ^ 64 }
-    ensures { means result ≡ arithmetic.times (packed L.Level.log (cell bits.now) w) (weight arithmetic (equality arithmetic (map means batching.now)) (map means slot.now) (steps means stepping) i) }
+    ensures { L.means result ≡ L.arithmetic.times (packed L.Level.log (cell bits.now) w) (weight L.arithmetic (equality L.arithmetic (map L.means batching.now)) (map L.means slot.now) (steps L.means stepping) i) }
 {
     packed_element::<L>(bits, w).mul(weight(batching, slot, stepping, i))
 }
@@ -89,11 +89,11 @@ pub fn slot_sum<L: Level>(
     stepping: Option<Stepping<L>>,
 ) -> L
     requires narrow { L.Level.log ≤ 7 }
-    requires rows { RowsWithin (steps means stepping) 63 }
+    requires rows { RowsWithin (steps L.means stepping) 63 }
     requires short { length slot.now < 64 }
     requires cells { (slot_start + 2 ^ length slot.now) * width L.Level.log ≤ 2 ^ 64 }
-    ensures weighted { means result ≡ sum (2 ^ length slot.now) (λ i. arithmetic.times (packed L.Level.log (cell bits.now) (slot_start + i)) (weight arithmetic (equality arithmetic (map means batching.now)) (map means slot.now) (steps means stepping) i)) }
-    ensures initial { InitialSumOf arithmetic (equality arithmetic (map means batching.now)) (cell bits.now) (map means slot.now) slot_start (steps means stepping) (means result) }
+    ensures weighted { L.means result ≡ sum (2 ^ length slot.now) (λ i. L.arithmetic.times (packed L.Level.log (cell bits.now) (slot_start + i)) (weight L.arithmetic (equality L.arithmetic (map L.means batching.now)) (map L.means slot.now) (steps L.means stepping) i)) }
+    ensures initial { InitialSumOf L.arithmetic (equality L.arithmetic (map L.means batching.now)) (cell bits.now) (map L.means slot.now) slot_start (steps L.means stepping) (L.means result) }
 {
     let mut sum = L::zero();
     for i in 0..1 << slot.len() {
@@ -111,8 +111,8 @@ fn closing_term<L: Level>(
     i: usize,
 ) -> L
     requires narrow { L.Level.log ≤ 7 }
-    requires rows { RowsWithin (steps means stepping) 63 }
-    ensures { means result ≡ arithmetic.times (weight arithmetic (equality arithmetic (map means batching.now)) (map means slot.now) (steps means stepping) i) (equality arithmetic (map means z.now) i) }
+    requires rows { RowsWithin (steps L.means stepping) 63 }
+    ensures { L.means result ≡ L.arithmetic.times (weight L.arithmetic (equality L.arithmetic (map L.means batching.now)) (map L.means slot.now) (steps L.means stepping) i) (equality L.arithmetic (map L.means z.now) i) }
 {
     weight(batching, slot, stepping, i).mul(equality_entry(z, i))
 }
@@ -125,10 +125,10 @@ pub fn closing_value<L: Level>(
     z: &[L],
 ) -> L
     requires narrow { L.Level.log ≤ 7 }
-    requires rows { RowsWithin (steps means stepping) 63 }
+    requires rows { RowsWithin (steps L.means stepping) 63 }
     requires short { length z.now < 64 }
-    ensures value { means result ≡ multilinear arithmetic (weight arithmetic (equality arithmetic (map means batching.now)) (map means slot.now) (steps means stepping)) (map means z.now) }
-    ensures closing { RowsWithin (steps means stepping) (length slot.now) → length z.now ≡ length slot.now → means result ≡ closing_value arithmetic (equality arithmetic (map means batching.now)) (map means slot.now) (steps means stepping) (map means z.now) }
+    ensures value { L.means result ≡ multilinear L.arithmetic (weight L.arithmetic (equality L.arithmetic (map L.means batching.now)) (map L.means slot.now) (steps L.means stepping)) (map L.means z.now) }
+    ensures closing { RowsWithin (steps L.means stepping) (length slot.now) → length z.now ≡ length slot.now → L.means result ≡ closing_value L.arithmetic (equality L.arithmetic (map L.means batching.now)) (map L.means slot.now) (steps L.means stepping) (map L.means z.now) }
 {
     let mut sum = L::zero();
     for i in 0..1 << z.len() {

@@ -28,7 +28,7 @@ pub fn cell(bits: &[u8], c: usize) -> u8
 // Packed element w of a table of bits: its coordinate v is cell w·d + v.
 pub fn packed_element<L: Level>(bits: &[u8], w: usize) -> L
     requires { (L.Level.log ≤ 7) × ((w + 1) * width L.Level.log ≤ 2 ^ 64) }
-    ensures { means result ≡ packed L.Level.log (cell bits.now) w }
+    ensures { L.means result ≡ packed L.Level.log (cell bits.now) w }
 {
     let d = width::<L>();
     let mut coordinates = 0;

@@ -15,7 +15,7 @@ pub(crate) fn width<L: Level>() -> usize
 // An element's coordinates, coordinate u at bit u.
 pub(crate) fn coordinates<L: Level>(x: L) -> u128
     requires { L.Level.log ≤ 7 }
-    ensures { result ≡ (means x).number }
+    ensures { result ≡ (L.means x).number }
 {
     u128::from_le_bytes(x.to_bytes())
 }
@@ -38,7 +38,7 @@ pub(crate) fn with_coordinate(coordinates: u128, v: usize, bit: u8) -> u128
 
 // x where the bit is 1, else zero.
 fn at_bit<L: Level>(bit: u8, x: L) -> L
-    ensures { means result ≡ at_bit bit (means x) }
+    ensures { L.means result ≡ at_bit bit (L.means x) }
 {
     if bit == 0 { L::zero() } else { x }
 }
@@ -46,7 +46,7 @@ fn at_bit<L: Level>(bit: u8, x: L) -> L
 // x where coordinate u is set, else zero.
 pub(crate) fn at_coordinate<L: Level>(coordinates: u128, u: usize, x: L) -> L
     requires { u < 128 }
-    ensures { means result ≡ at_bit (coordinates / 2 ^ u % 2) (means x) }
+    ensures { L.means result ≡ at_bit (coordinates / 2 ^ u % 2) (L.means x) }
 {
     at_bit(coordinate(coordinates, u), x)
 }

@@ -43,7 +43,7 @@ fn prefix_limit<L: Level>(n: usize, view: Option<usize>) -> usize
 
 // The bit that a coordinate spells in a slot's address: 0 for zero, 1 for one, and none for any other element.
 fn selector_bit<L: Level>(x: L) -> Option<usize>
-    ensures { MatchOption result (selects arithmetic (means x) ≡ 2) (λ b. (b < 2) × (selects arithmetic (means x) ≡ b)) }
+    ensures { MatchOption result (selects L.arithmetic (L.means x) ≡ 2) (λ b. (b < 2) × (selects L.arithmetic (L.means x) ≡ b)) }
 {
     if x.equals(L::zero()) {
         Some(0)
@@ -66,8 +66,8 @@ fn extended(address: usize, bit: usize) -> usize
 // significant first.
 fn leading_run<L: Level>(point: &[L]) -> (usize, usize)
     requires { length point.now ≤ 64 }
-    ensures count { result.0 ≡ (run arithmetic (map means point.now)).count }
-    ensures address { result.1 ≡ (run arithmetic (map means point.now)).address }
+    ensures count { result.0 ≡ (run L.arithmetic (map L.means point.now)).count }
+    ensures address { result.1 ≡ (run L.arithmetic (map L.means point.now)).address }
 {
     let mut count = 0;
     let mut address = 0;
@@ -84,8 +84,8 @@ fn leading_run<L: Level>(point: &[L]) -> (usize, usize)
 // How many leading coordinates select the slot of an opening, and its address.
 pub fn fixed_prefix<L: Level>(point: &[L], view: Option<usize>) -> (usize, usize)
     requires { (L.Level.log ≤ 7) × (length point.now ≤ 64) }
-    ensures count { result.0 ≡ (prefix arithmetic (map means point.now) view).count }
-    ensures address { result.1 ≡ (prefix arithmetic (map means point.now) view).address }
+    ensures count { result.0 ≡ (prefix L.arithmetic (map L.means point.now) view).count }
+    ensures address { result.1 ≡ (prefix L.arithmetic (map L.means point.now) view).address }
     ensures within { result.0 ≤ length point.now - L.Level.log }
     ensures bounded { result.1 < 2 ^ result.0 }
 {
@@ -103,8 +103,8 @@ fn slot_begin(address: usize, l: usize) -> usize
 // The slot of an opening: its first packed element, and its coordinates, which are the kept ones after the prefix.
 pub fn slot<L: Level>(point: &[L], view: Option<usize>) -> (usize, &[L])
     requires { (L.Level.log ≤ 7) × (length point.now < 64) }
-    ensures start { result.0 ≡ slot_start arithmetic (map means point.now) view }
-    ensures coordinates { map means result.1.now ≡ rest arithmetic (map means point.now) view }
+    ensures start { result.0 ≡ slot_start L.arithmetic (map L.means point.now) view }
+    ensures coordinates { map L.means result.1.now ≡ rest L.arithmetic (map L.means point.now) view }
     ensures short { length result.1.now < 64 }
     ensures cells { (result.0 + 2 ^ length result.1.now) * width L.Level.log ≤ 2 ^ 64 }
 {

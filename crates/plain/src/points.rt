@@ -6,15 +6,15 @@ use level::level::Level;
 
 // The factor of a coordinate at one bit of an index.
 fn coordinate_factor<L: Level>(x: L, set: bool) -> L
-    ensures at_one { set ≡ true → means result ≡ means x }
-    ensures at_zero { set ≡ false → means result ≡ plus arithmetic.unit (means x) }
+    ensures at_one { set ≡ true → L.means result ≡ L.means x }
+    ensures at_zero { set ≡ false → L.means result ≡ plus L.arithmetic.unit (L.means x) }
 {
     if set { x } else { L::one().add(x) }
 }
 
 // Entry `index` of the equality table of a point, whose first coordinate is at the most significant bit.
 pub fn equality_entry<L: Level>(point: &[L], index: usize) -> L
-    ensures { means result ≡ equality arithmetic (map means point.now) index }
+    ensures { L.means result ≡ equality L.arithmetic (map L.means point.now) index }
 {
     let mut product = L::one();
     let mut rest = index;

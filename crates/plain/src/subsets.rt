@@ -8,7 +8,7 @@ use level::level::Level;
 // The sum of the weights of an element's set coordinates, the u-th weight for coordinate u.
 pub fn subset_sum<L: Level>(weights: &[L], x: L) -> L
     requires { (L.Level.log ≤ 7) × (length weights.now ≡ width L.Level.log) }
-    ensures { means result ≡ subset_sum (λ u. slice_index_or (map means weights.now) u (zeros L.Level.log)) (means x) }
+    ensures { L.means result ≡ subset_sum (λ u. slice_index_or (map L.means weights.now) u (zeros L.Level.log)) (L.means x) }
 {
     let set = coordinates(x);
     let mut sum = L::zero();

@@ -11,14 +11,14 @@ use level::level::Level;
 
 // A bit standing for zero or one.
 fn standing<L: Level>(bit: u8) -> L
-    ensures { means result ≡ standing arithmetic bit }
+    ensures { L.means result ≡ standing L.arithmetic bit }
 {
     if bit == 0 { L::zero() } else { L::one() }
 }
 
 // Cell c, standing for zero or one, times entry c of the equality table of the point.
 fn table_term<L: Level>(bits: &[u8], point: &[L], c: usize) -> L
-    ensures { means result ≡ arithmetic.times (standing arithmetic (cell bits.now c)) (equality arithmetic (map means point.now) c) }
+    ensures { L.means result ≡ L.arithmetic.times (standing L.arithmetic (cell bits.now c)) (equality L.arithmetic (map L.means point.now) c) }
 {
     standing::<L>(cell(bits, c)).mul(equality_entry(point, c))
 }
@@ -26,8 +26,8 @@ fn table_term<L: Level>(bits: &[u8], point: &[L], c: usize) -> L
 // The multilinear value at a point of a table of bits: the incoming claim of the table's tensor.
 pub fn table_value<L: Level>(bits: &[u8], point: &[L]) -> L
     requires { length point.now < 64 }
-    ensures value { means result ≡ multilinear arithmetic (λ c. standing arithmetic (cell bits.now c)) (map means point.now) }
-    ensures incoming { L.Level.log ≤ length point.now → means result ≡ incoming arithmetic (low (map means point.now)) (opened arithmetic (map means point.now) (cell bits.now)) }
+    ensures value { L.means result ≡ multilinear L.arithmetic (λ c. standing L.arithmetic (cell bits.now c)) (map L.means point.now) }
+    ensures incoming { L.Level.log ≤ length point.now → L.means result ≡ incoming L.arithmetic (low (map L.means point.now)) (opened L.arithmetic (map L.means point.now) (cell bits.now)) }
 {
     let mut sum = L::zero();
     for c in 0..1 << point.len() {
@@ -39,7 +39,7 @@ pub fn table_value<L: Level>(bits: &[u8], point: &[L]) -> L
 // The successor of cell c, standing for zero or one, times entry c of the equality table of the point.
 fn successor_term<L: Level>(bits: &[u8], point: &[L], q: usize, c: usize) -> L
     requires { q < 64 }
-    ensures { means result ≡ arithmetic.times (standing arithmetic (cell bits.now (successor q c))) (equality arithmetic (map means point.now) c) }
+    ensures { L.means result ≡ L.arithmetic.times (standing L.arithmetic (cell bits.now (successor q c))) (equality L.arithmetic (map L.means point.now) c) }
 {
     standing::<L>(cell(bits, successor_cell(q, c))).mul(equality_entry(point, c))
 }
@@ -48,8 +48,8 @@ fn successor_term<L: Level>(bits: &[u8], point: &[L], q: usize, c: usize) -> L
 // the table's tensor, carry and last.
 pub fn successor_value<L: Level>(bits: &[u8], point: &[L], q: usize) -> L
     requires { (length point.now < 64) × (q < 64) }
-    ensures value { means result ≡ multilinear arithmetic (λ c. standing arithmetic (one_row_on q (cell bits.now) c)) (map means point.now) }
-    ensures claim { L.Level.log ≤ length point.now → q ≤ length point.now → means result ≡ successor_claim arithmetic (low (map means point.now)) q (opened arithmetic (map means point.now) (cell bits.now)) (opened_carry arithmetic (map means point.now) q (cell bits.now)) (opened_last arithmetic (map means point.now) q (cell bits.now)) }
+    ensures value { L.means result ≡ multilinear L.arithmetic (λ c. standing L.arithmetic (one_row_on q (cell bits.now) c)) (map L.means point.now) }
+    ensures claim { L.Level.log ≤ length point.now → q ≤ length point.now → L.means result ≡ successor_claim L.arithmetic (low (map L.means point.now)) q (opened L.arithmetic (map L.means point.now) (cell bits.now)) (opened_carry L.arithmetic (map L.means point.now) q (cell bits.now)) (opened_last L.arithmetic (map L.means point.now) q (cell bits.now)) }
 {
     let mut sum = L::zero();
     for c in 0..1 << point.len() {

@@ -58,7 +58,7 @@ fn read_bits<L: Level>(heap: Global, text: &[u8]) -> Result<Vec<u8>, ProblemFaul
 
 // The elements that a text of a key writes.
 fn read_elements<L: Level>(heap: Global, key: Key, text: &[u8]) -> Result<Vec<L>, ProblemFault>
-    ensures { MatchResult result (λ v. ElementsOf text.now (map means v.items)) (BadText L.Level.log key text.now) }
+    ensures { MatchResult result (λ v. ElementsOf text.now (map L.means v.items)) (BadText L.Level.log key text.now) }
 {
     match parse_elements(heap, text) {
         Ok(elements) => Ok(elements),
@@ -71,7 +71,7 @@ fn read_batching<L: Level>(
     heap: Global,
     text: Option<&[u8]>,
 ) -> Result<Option<Vec<L>>, ProblemFault>
-    ensures { MatchResult result (λ o. OptionalPoint (option_map (λ x. x.now) text.entry) (option_map (λ v. map means v.items) o)) (BadAmong L.Level.log named.Batching (option_to_list (option_map (λ x. x.now) text.entry))) }
+    ensures { MatchResult result (λ o. OptionalPoint (option_map (λ x. x.now) text.entry) (option_map (λ v. map L.means v.items) o)) (BadAmong L.Level.log named.Batching (option_to_list (option_map (λ x. x.now) text.entry))) }
 {
     match text {
         Some(text) => Ok(Some(read_elements(heap, Key::Batching, text)?)),
@@ -81,7 +81,7 @@ fn read_batching<L: Level>(
 
 // The only element that a text writes.
 fn read_element<L: Level>(heap: Global, text: &[u8]) -> Result<L, ProblemFault>
-    ensures { MatchResult result (λ x. ElementsOf text.now (means x ∷ [])) (BadText L.Level.log named.Challenge text.now) }
+    ensures { MatchResult result (λ x. ElementsOf text.now (L.means x ∷ [])) (BadText L.Level.log named.Challenge text.now) }
 {
     let elements = read_elements::<L>(heap, Key::Challenge, text)?;
     if elements.len() != 1 {
@@ -92,7 +92,7 @@ fn read_element<L: Level>(heap: Global, text: &[u8]) -> Result<L, ProblemFault>
 
 // The challenge, where there is one.
 fn read_challenge<L: Level>(heap: Global, text: Option<&[u8]>) -> Result<Option<L>, ProblemFault>
-    ensures { MatchResult result (λ o. OptionalElement (option_map (λ x. x.now) text.entry) (option_map means o)) (BadAmong L.Level.log named.Challenge (option_to_list (option_map (λ x. x.now) text.entry))) }
+    ensures { MatchResult result (λ o. OptionalElement (option_map (λ x. x.now) text.entry) (option_map L.means o)) (BadAmong L.Level.log named.Challenge (option_to_list (option_map (λ x. x.now) text.entry))) }
 {
     match text {
         Some(text) => Ok(Some(read_element(heap, text)?)),
@@ -102,7 +102,7 @@ fn read_challenge<L: Level>(heap: Global, text: Option<&[u8]>) -> Result<Option<
 
 // The closing points, in their order.
 fn read_closings<L: Level>(heap: Global, texts: &[&[u8]]) -> Result<Vec<Vec<L>>, ProblemFault>
-    ensures { MatchResult result (λ vs. EachPoint (map (λ x. x.now) texts.now) (map (λ v. map means v.items) vs.items)) (BadAmong L.Level.log named.Closing (map (λ x. x.now) texts.now)) }
+    ensures { MatchResult result (λ vs. EachPoint (map (λ x. x.now) texts.now) (map (λ v. map L.means v.items) vs.items)) (BadAmong L.Level.log named.Closing (map (λ x. x.now) texts.now)) }
 {
     let mut closings = Vec::new(heap);
     for text in texts {
@@ -120,7 +120,7 @@ fn closes_unbatched(input: &Input) -> bool
 
 // The problem that an input poses at a level.
 pub fn read_problem<L: Level>(heap: Global, input: &Input) -> Result<Problem<L>, ProblemFault>
-    ensures { MatchResult result (λ p. Asks (parts_of input.now) (task_of means p)) (BadProblem L.Level.log (parts_of input.now)) }
+    ensures { MatchResult result (λ p. Asks (parts_of input.now) (task_of L.means p)) (BadProblem L.Level.log (parts_of input.now)) }
 {
     if closes_unbatched(input) {
         return Err(ProblemFault::NoBatching);

@@ -1,6 +1,7 @@
 // Reads lines `LETTER HEX HEX` from standard input and prints for each the product of the two elements at the level that the
 // letter names, or a line that begins `error: `.
 #![tactic(auto)]
+
 use product_line::letter::{reply, without_newline};
 use std::io;
 use std::io::{BufRead, BufReader};

@@ -40,7 +40,7 @@ fn place(from: usize, at: usize) -> usize
 // The element whose text stands at `from` in what follows the letter.
 fn operand<L: Level>(rest: &[u8], from: usize, digits: usize) -> Result<L, LineFault>
     requires { (digits ≡ 2 * byte_count L.Level.log) × ((from + digits ≤ length rest.now) × (length rest.now ≤ 66)) }
-    ensures { MatchResult result (λ x. Writes (take digits (drop from rest.now)) (means x)) (BadOperand rest.now) }
+    ensures { MatchResult result (λ x. Writes (take digits (drop from rest.now)) (L.means x)) (BadOperand rest.now) }
 {
     match parse_element::<L>(&rest[from..from + digits]) {
         Ok(x) => Ok(x),

@@ -30,8 +30,8 @@ impl<'a, L: Level> BitTensorBuckets<'a, L> {
     // Forgets every term.
     pub fn clear(&mut self)
         ensures same { self.new.buckets.ghost_name ≡ self.old.buckets.ghost_name }
-        ensures empty { Empty (lent means self.new.buckets.now) }
-        ensures bucketed { (a b : ℕ → Element L.Level.log) → Bucketed a b 0 (lent means self.new.buckets.now) }
+        ensures empty { Empty (lent L.means self.new.buckets.now) }
+        ensures bucketed { (a b : ℕ → Element L.Level.log) → Bucketed a b 0 (lent L.means self.new.buckets.now) }
     {
         empty_all(self.buckets);
     }
@@ -42,8 +42,8 @@ impl<'a, L: Level> BitTensorBuckets<'a, L> {
         requires narrow { L.Level.log ≤ 7 }
         requires buckets { length self.old.buckets.now ≡ 256 * bytes L.Level.log }
         ensures same { self.new.buckets.ghost_name ≡ self.old.buckets.ghost_name }
-        ensures added { Added (means a) (means b) (lent means self.old.buckets.now) (lent means self.new.buckets.now) }
-        ensures bucketed { (e f : ℕ → Element L.Level.log) (n : ℕ) → e n ≡ means a → f n ≡ means b → Bucketed e f n (lent means self.old.buckets.now) → Bucketed e f (n + 1) (lent means self.new.buckets.now) }
+        ensures added { Added (L.means a) (L.means b) (lent L.means self.old.buckets.now) (lent L.means self.new.buckets.now) }
+        ensures bucketed { (e f : ℕ → Element L.Level.log) (n : ℕ) → e n ≡ L.means a → f n ≡ L.means b → Bucketed e f n (lent L.means self.old.buckets.now) → Bucketed e f (n + 1) (lent L.means self.new.buckets.now) }
     {
         add_term(self.buckets, a, b);
     }
@@ -55,8 +55,8 @@ impl<'a, L: Level> BitTensorBuckets<'a, L> {
         requires buckets { length self.old.buckets.now ≡ 256 * bytes L.Level.log }
         requires rows { length rows.old ≡ width L.Level.log }
         ensures same { self.new.buckets.ghost_name ≡ self.old.buckets.ghost_name }
-        ensures rows { (a b : ℕ → Element L.Level.log) (n : ℕ) → Bucketed a b n (lent means self.old.buckets.now) → Summed a b n (lent means rows.new) }
-        ensures buckets { AllHalved (λ j. of_byte j (lent means self.old.buckets.now)) (lent means self.new.buckets.now) }
+        ensures rows { (a b : ℕ → Element L.Level.log) (n : ℕ) → Bucketed a b n (lent L.means self.old.buckets.now) → Summed a b n (lent L.means rows.new) }
+        ensures buckets { AllHalved (λ j. of_byte j (lent L.means self.old.buckets.now)) (lent L.means self.new.buckets.now) }
     {
         read_rows(self.buckets, rows);
     }

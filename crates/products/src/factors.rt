@@ -16,8 +16,8 @@ fn sum_terms<L: Level>(left: &[L], right: &[L], buckets: &mut [L], rows: &mut [L
     requires terms { length right.now ≡ length left.now }
     requires buckets { length buckets.old ≡ 256 * bytes L.Level.log }
     requires rows { length rows.old ≡ width L.Level.log }
-    ensures rows { Summed (lent means left.now) (lent means right.now) (length left.now) (lent means rows.new) }
-    ensures buckets { AllHalved (bucket (lent means left.now) (lent means right.now) (length left.now)) (lent means buckets.new) }
+    ensures rows { Summed (lent L.means left.now) (lent L.means right.now) (length left.now) (lent L.means rows.new) }
+    ensures buckets { AllHalved (bucket (lent L.means left.now) (lent L.means right.now) (length left.now)) (lent L.means buckets.new) }
 {
     empty_all(buckets);
     add_terms(buckets, left, right);
@@ -46,8 +46,8 @@ impl<'a, L: Level> LeftFactors<'a, L> {
         requires terms { length right.now ≡ length self.now.left.now }
         requires buckets { length buckets.old ≡ 256 * bytes L.Level.log }
         requires rows { length rows.old ≡ width L.Level.log }
-        ensures rows { Summed (lent means self.now.left.now) (lent means right.now) (length self.now.left.now) (lent means rows.new) }
-        ensures buckets { AllHalved (bucket (lent means self.now.left.now) (lent means right.now) (length self.now.left.now)) (lent means buckets.new) }
+        ensures rows { Summed (lent L.means self.now.left.now) (lent L.means right.now) (length self.now.left.now) (lent L.means rows.new) }
+        ensures buckets { AllHalved (bucket (lent L.means self.now.left.now) (lent L.means right.now) (length self.now.left.now)) (lent L.means buckets.new) }
     {
         sum_terms(self.left, right, buckets, rows);
     }

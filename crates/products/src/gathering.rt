@@ -16,14 +16,14 @@ pub(crate) fn byte_count<L: Level>() -> usize
 
 // What an empty bucket holds.
 fn empty<L: Level>() -> L
-    ensures { means result ≡ zeros L.Level.log }
+    ensures { L.means result ≡ zeros L.Level.log }
 {
     L::zero()
 }
 
 // Empties every bucket.
 pub(crate) fn empty_all<L: Level>(buckets: &mut [L])
-    ensures { Empty (lent means buckets.new) }
+    ensures { Empty (lent L.means buckets.new) }
 {
     for i in 0..buckets.len() {
         buckets[i] = empty();
@@ -42,7 +42,7 @@ fn place(j: usize, value: u8) -> usize
 pub(crate) fn add_term<L: Level>(buckets: &mut [L], a: L, b: L)
     requires narrow { L.Level.log ≤ 7 }
     requires buckets { length buckets.old ≡ 256 * bytes L.Level.log }
-    ensures { Added (means a) (means b) (lent means buckets.old) (lent means buckets.new) }
+    ensures { Added (L.means a) (L.means b) (lent L.means buckets.old) (lent L.means buckets.new) }
 {
     let values = a.to_bytes();
     for j in 0..byte_count::<L>() {
@@ -55,9 +55,9 @@ pub(crate) fn add_term<L: Level>(buckets: &mut [L], a: L, b: L)
 pub(crate) fn add_terms<L: Level>(buckets: &mut [L], left: &[L], right: &[L])
     requires narrow { L.Level.log ≤ 7 }
     requires buckets { length buckets.old ≡ 256 * bytes L.Level.log }
-    requires empty { Empty (lent means buckets.old) }
+    requires empty { Empty (lent L.means buckets.old) }
     requires terms { length right.now ≡ length left.now }
-    ensures { Bucketed (lent means left.now) (lent means right.now) (length left.now) (lent means buckets.new) }
+    ensures { Bucketed (lent L.means left.now) (lent L.means right.now) (length left.now) (lent L.means buckets.new) }
 {
     for w in 0..left.len() {
         add_term(buckets, left[w], right[w]);

@@ -1,6 +1,7 @@
 // Sums of exterior products over lent memory, gathered in buckets by the bytes of their left factors and read out row by row.
 // One list of left factors serves many blocks of right factors; shifted by one place, it serves the carry.
 #![tactic(auto)]
+
 pub mod buckets;
 pub mod factors;
 mod gathering;

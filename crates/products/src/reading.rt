@@ -12,8 +12,8 @@ use level::level::Level;
 // Adds the upper of two halves of `half` buckets into the lower, and returns the sum of the upper.
 fn halve<L: Level>(buckets: &mut [L], start: usize, half: usize) -> L
     requires { start + half + half ≤ length buckets.old }
-    ensures upper { means result ≡ sum half (λ s. lent means buckets.old (start + half + s)) }
-    ensures halved { Halved start half half (lent means buckets.old) (lent means buckets.new) }
+    ensures upper { L.means result ≡ sum half (λ s. lent L.means buckets.old (start + half + s)) }
+    ensures halved { Halved start half half (lent L.means buckets.old) (lent L.means buckets.new) }
 {
     let mut sum = L::zero();
     for s in 0..half {
@@ -37,7 +37,7 @@ fn half(i: usize) -> usize
 fn read_byte<L: Level>(buckets: &mut [L], rows: &mut [L], j: usize)
     requires buckets { 256 * j + 256 ≤ length buckets.old }
     requires rows { 8 * j + 8 ≤ length rows.old }
-    ensures { ByteRead j (lent means buckets.old) (lent means buckets.new) (lent means rows.old) (lent means rows.new) }
+    ensures { ByteRead j (lent L.means buckets.old) (lent L.means buckets.new) (lent L.means rows.old) (lent L.means rows.new) }
 {
     for i in (0..8).rev() {
         rows[8 * j + i] = halve(buckets, 256 * j, half(i));
@@ -50,8 +50,8 @@ pub(crate) fn read_rows<L: Level>(buckets: &mut [L], rows: &mut [L])
     requires narrow { L.Level.log ≤ 7 }
     requires buckets { length buckets.old ≡ 256 * bytes L.Level.log }
     requires rows { length rows.old ≡ width L.Level.log }
-    ensures rows { (a b : ℕ → Element L.Level.log) (n : ℕ) → Bucketed a b n (lent means buckets.old) → Summed a b n (lent means rows.new) }
-    ensures buckets { AllHalved (λ j. of_byte j (lent means buckets.old)) (lent means buckets.new) }
+    ensures rows { (a b : ℕ → Element L.Level.log) (n : ℕ) → Bucketed a b n (lent L.means buckets.old) → Summed a b n (lent L.means rows.new) }
+    ensures buckets { AllHalved (λ j. of_byte j (lent L.means buckets.old)) (lent L.means buckets.new) }
 {
     for j in 0..byte_count::<L>() {
         read_byte(buckets, rows, j);

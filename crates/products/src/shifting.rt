@@ -16,7 +16,7 @@ fn starts_column(rows: usize, j: usize) -> bool
 // The entry before j in its column, zero where j starts one.
 fn entry_before<L: Level>(inner: &[L], rows: usize, j: usize) -> L
     requires { (rows < 64) × (j < length inner.now) }
-    ensures { means result ≡ where_set (not (starts rows j)) (lent means inner.now (j - 1)) }
+    ensures { L.means result ≡ where_set (not (starts rows j)) (lent L.means inner.now (j - 1)) }
 {
     if starts_column(rows, j) {
         L::zero()
@@ -30,7 +30,7 @@ fn entry_before<L: Level>(inner: &[L], rows: usize, j: usize) -> L
 pub fn shifted<L: Level>(inner: &[L], rows: usize, out: &mut [L])
     requires short { rows < 64 }
     requires size { length out.old ≡ length inner.now }
-    ensures { (j : ℕ) → j < length inner.now → lent means out.new j ≡ where_set (not (starts rows j)) (lent means inner.now (j - 1)) }
+    ensures { (j : ℕ) → j < length inner.now → lent L.means out.new j ≡ where_set (not (starts rows j)) (lent L.means inner.now (j - 1)) }
 {
     for j in 0..out.len() {
         out[j] = entry_before(inner, rows, j);

@@ -1,5 +1,6 @@
 // Reads an input from standard input and prints the values of its opening, one a line, or a line that begins `error: `.
 #![tactic(auto)]
+
 use reducing::reduce::reduce;
 use std::io;
 use std::io::Read;

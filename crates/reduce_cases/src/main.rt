@@ -1,5 +1,6 @@
 // Reduces several inputs, between which lines `--` stand, with such lines between the answers.
 #![tactic(auto)]
+
 use reducing::reduce::reduce;
 use std::io;
 use std::io::{BufRead, BufReader};

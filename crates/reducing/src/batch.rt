@@ -48,12 +48,12 @@ pub(crate) fn batch_slot<'a, L: Level>(
     requires tensor { length opened.now.tensor.items ≡ width L.Level.log }
     requires carry { length opened.now.carry.items ≡ width L.Level.log }
     requires last { length opened.now.last.items ≡ width L.Level.log }
-    ensures batched { IfOk result (λ b. (bits : ℕ → ℕ) → Worked means arithmetic (map means point.now) view bits opened.now → batching_of means b ≡ slot_batching arithmetic bits (map means point.now) view (map means batching.now) (option_map means challenge)) }
-    ensures count { IfOk result (λ b. (bits : ℕ → ℕ) → Worked means arithmetic (map means point.now) view bits opened.now → length b.tables.weights.items ≡ 2 ^ length b.slot.now) }
-    ensures weights { IfOk result (λ b. (bits : ℕ → ℕ) → Worked means arithmetic (map means point.now) view bits opened.now → (i : ℕ) → i < 2 ^ length b.slot.now → lent means b.tables.weights.items i ≡ weight arithmetic (equality arithmetic (map means b.batching.now)) (map means b.slot.now) (steps means b.stepping) i) }
-    ensures table { IfOk result (λ b. Tabulated means arithmetic arithmetic.unit (map means b.batching.now) b.tables.eq_batch.items) }
+    ensures batched { IfOk result (λ b. (bits : ℕ → ℕ) → Worked L.means L.arithmetic (map L.means point.now) view bits opened.now → batching_of L.means b ≡ slot_batching L.arithmetic bits (map L.means point.now) view (map L.means batching.now) (option_map L.means challenge)) }
+    ensures count { IfOk result (λ b. (bits : ℕ → ℕ) → Worked L.means L.arithmetic (map L.means point.now) view bits opened.now → length b.tables.weights.items ≡ 2 ^ length b.slot.now) }
+    ensures weights { IfOk result (λ b. (bits : ℕ → ℕ) → Worked L.means L.arithmetic (map L.means point.now) view bits opened.now → (i : ℕ) → i < 2 ^ length b.slot.now → lent L.means b.tables.weights.items i ≡ weight L.arithmetic (equality L.arithmetic (map L.means b.batching.now)) (map L.means b.slot.now) (steps L.means b.stepping) i) }
+    ensures table { IfOk result (λ b. Tabulated L.means L.arithmetic L.arithmetic.unit (map L.means b.batching.now) b.tables.eq_batch.items) }
     ensures entries { IfOk result (λ b. length b.tables.eq_batch.items ≡ width L.Level.log) }
-    ensures rows { IfOk result (λ b. RowsWithin (steps means b.stepping) (length b.slot.now)) }
+    ensures rows { IfOk result (λ b. RowsWithin (steps L.means b.stepping) (length b.slot.now)) }
 {
     let stepping = stepping_of(kept_row_variables::<L>(view), challenge);
     let (_, slot) = slot(point, view);

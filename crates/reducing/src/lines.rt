@@ -23,8 +23,8 @@ pub(crate) fn batch_lines<L: Level>(
     batch: &SlotBatch<L>,
 ) -> Result<(), AllocError>
     requires count { length batch.now.tables.weights.items ≡ 2 ^ length batch.now.slot.now }
-    requires weights { (i : ℕ) → i < 2 ^ length batch.now.slot.now → lent means batch.now.tables.weights.items i ≡ weight arithmetic (equality arithmetic (map means batch.now.batching.now)) (map means batch.now.slot.now) (steps means batch.now.stepping) i }
-    ensures { OnOk result (string_bytes out.new ≡ string_bytes out.old ++ batching_text arithmetic (batching_of means batch.now)) }
+    requires weights { (i : ℕ) → i < 2 ^ length batch.now.slot.now → lent L.means batch.now.tables.weights.items i ≡ weight L.arithmetic (equality L.arithmetic (map L.means batch.now.batching.now)) (map L.means batch.now.slot.now) (steps L.means batch.now.stepping) i }
+    ensures { OnOk result (string_bytes out.new ≡ string_bytes out.old ++ batching_text L.arithmetic (batching_of L.means batch.now)) }
 {
     element_line(heap, out, "initial", batch.tables.initial)?;
     element_lines(heap, out, "weight", batch.tables.weights.as_slice())?;
@@ -40,11 +40,11 @@ fn closing_lines_through<L: Level>(
     scratch: &mut [L],
 ) -> Result<(), Stop>
     requires narrow { L.Level.log ≤ 7 }
-    requires table { Tabulated means arithmetic arithmetic.unit (map means batch.now.batching.now) batch.now.tables.eq_batch.items }
+    requires table { Tabulated L.means L.arithmetic L.arithmetic.unit (map L.means batch.now.batching.now) batch.now.tables.eq_batch.items }
     requires entries { length batch.now.tables.eq_batch.items ≡ width L.Level.log }
-    requires rows { RowsWithin (steps means batch.now.stepping) (length batch.now.slot.now) }
+    requires rows { RowsWithin (steps L.means batch.now.stepping) (length batch.now.slot.now) }
     requires scratch { length scratch.old ≡ 3 * width L.Level.log }
-    ensures { Reported result (string_bytes out.new) (string_bytes out.old ++ closing_text arithmetic (batching_of means batch.now) (map (λ v. map means v.items) closings.now)) }
+    ensures { Reported result (string_bytes out.new) (string_bytes out.old ++ closing_text L.arithmetic (batching_of L.means batch.now) (map (λ v. map L.means v.items) closings.now)) }
 {
     let slot = batch.slot;
     let stepping = batch.stepping;
@@ -64,10 +64,10 @@ pub(crate) fn closing_lines<L: Level>(
     closings: &[Vec<L>],
 ) -> Result<(), Stop>
     requires narrow { L.Level.log ≤ 7 }
-    requires table { Tabulated means arithmetic arithmetic.unit (map means batch.now.batching.now) batch.now.tables.eq_batch.items }
+    requires table { Tabulated L.means L.arithmetic L.arithmetic.unit (map L.means batch.now.batching.now) batch.now.tables.eq_batch.items }
     requires entries { length batch.now.tables.eq_batch.items ≡ width L.Level.log }
-    requires rows { RowsWithin (steps means batch.now.stepping) (length batch.now.slot.now) }
-    ensures { Reported result (string_bytes out.new) (string_bytes out.old ++ closing_text arithmetic (batching_of means batch.now) (map (λ v. map means v.items) closings.now)) }
+    requires rows { RowsWithin (steps L.means batch.now.stepping) (length batch.now.slot.now) }
+    ensures { Reported result (string_bytes out.new) (string_bytes out.old ++ closing_text L.arithmetic (batching_of L.means batch.now) (map (λ v. map L.means v.items) closings.now)) }
 {
     let mut scratch = Vec::new(heap);
     scratch.resize(3 * batch.tables.eq_batch.len(), L::zero())?;

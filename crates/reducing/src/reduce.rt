@@ -16,7 +16,7 @@ use std::alloc::{AllocError, Global};
 
 // The reply to an input at a level.
 fn reduce_at<L: Level>(heap: Global, input: &Input) -> Result<String, AllocError>
-    ensures { IfOk result (λ s. ReplyAt arithmetic (parts_of input.now) (string_bytes s)) }
+    ensures { IfOk result (λ s. ReplyAt L.arithmetic (parts_of input.now) (string_bytes s)) }
 {
     match read_problem::<L>(heap, input) {
         Ok(problem) => report(heap, &problem),

@@ -33,8 +33,8 @@ fn batched_lines<'a, L: Level>(
     requires narrow { L.Level.log ≤ 7 }
     requires short { length problem.now.point.items < 64 }
     requires rows { named problem.now.view ≤ length problem.now.point.items }
-    requires worked { Worked means arithmetic (map means problem.now.point.items) problem.now.view (cell problem.now.bits.items) opened.now }
-    ensures { Reported result (string_bytes out.new) (string_bytes out.old ++ batched_text arithmetic (task_of means problem.now) (Some (map means batching.now))) }
+    requires worked { Worked L.means L.arithmetic (map L.means problem.now.point.items) problem.now.view (cell problem.now.bits.items) opened.now }
+    ensures { Reported result (string_bytes out.new) (string_bytes out.old ++ batched_text L.arithmetic (task_of L.means problem.now) (Some (map L.means batching.now))) }
 {
     let sent = kept_row_variables::<L>(problem.view).is_some();
     check_batching::<L>(sent, problem.challenge.is_some(), batching.len())?;
@@ -62,8 +62,8 @@ fn values_lines<L: Level>(
     requires absorbed { L.Level.log ≤ length problem.now.point.items }
     requires short { length problem.now.point.items < 64 }
     requires rows { named problem.now.view ≤ length problem.now.point.items }
-    requires worked { Worked means arithmetic (map means problem.now.point.items) problem.now.view (cell problem.now.bits.items) opened.now }
-    ensures { Reported result (string_bytes out.new) (string_bytes out.old ++ values_text arithmetic (task_of means problem.now)) }
+    requires worked { Worked L.means L.arithmetic (map L.means problem.now.point.items) problem.now.view (cell problem.now.bits.items) opened.now }
+    ensures { Reported result (string_bytes out.new) (string_bytes out.old ++ values_text L.arithmetic (task_of L.means problem.now)) }
 {
     let opening = values(heap, opened, problem.point.as_slice(), problem.view)?;
     opening_lines(heap, out, &opening)?;
@@ -86,8 +86,8 @@ fn opened_lines<L: Level>(
     requires few { variables ≤ 24 }
     requires variables { variables ≡ variables_of L.Level.log (length problem.now.bits.items) }
     requires count { length packed.now ≡ 2 ^ variables }
-    requires elements { (w : ℕ) → w < length packed.now → lent means packed.now w ≡ packed-element L.Level.log (cell problem.now.bits.items) w }
-    ensures { Reported result (string_bytes out.new) (string_bytes out.old ++ opened_text arithmetic (task_of means problem.now)) }
+    requires elements { (w : ℕ) → w < length packed.now → lent L.means packed.now w ≡ packed-element L.Level.log (cell problem.now.bits.items) w }
+    ensures { Reported result (string_bytes out.new) (string_bytes out.old ++ opened_text L.arithmetic (task_of L.means problem.now)) }
 {
     let point = problem.point.as_slice();
     check_open::<L>(variables, point.len(), problem.view)?;
@@ -98,7 +98,7 @@ fn opened_lines<L: Level>(
 // Adds the lines of a problem, until a step is refused.
 fn problem_lines<L: Level>(heap: Global, out: &mut String, problem: &Problem<L>) -> Result<(), Stop>
     requires { length problem.now.bits.items ≤ 2 ^ 24 }
-    ensures { Reported result (string_bytes out.new) (string_bytes out.old ++ report_text arithmetic (task_of means problem.now)) }
+    ensures { Reported result (string_bytes out.new) (string_bytes out.old ++ report_text L.arithmetic (task_of L.means problem.now)) }
 {
     let bits = problem.bits.as_slice();
     let variables = packed_variables::<L>(bits)?;
@@ -110,7 +110,7 @@ fn problem_lines<L: Level>(heap: Global, out: &mut String, problem: &Problem<L>)
 // The report of a problem: its lines, and a last one where a step is refused.
 pub fn report<L: Level>(heap: Global, problem: &Problem<L>) -> Result<String, AllocError>
     requires { length problem.now.bits.items ≤ 2 ^ 24 }
-    ensures { IfOk result (λ s. string_bytes s ≡ report_text arithmetic (task_of means problem.now)) }
+    ensures { IfOk result (λ s. string_bytes s ≡ report_text L.arithmetic (task_of L.means problem.now)) }
 {
     let mut out = String::new(heap);
     let lines = problem_lines(heap, &mut out, problem);

@@ -33,7 +33,7 @@ pub(crate) fn pack<L: Level>(heap: Global, bits: &[u8], count: usize) -> Result<
     requires level { (3 ≤ L.Level.log) × (L.Level.log ≤ 7) }
     requires count { length bits.now ≡ count * stride L.Level.log }
     ensures count { IfOk result (λ v. length v.items ≡ count) }
-    ensures elements { IfOk result (λ v. (w : ℕ) → w < count → lent means v.items w ≡ packed-element L.Level.log (cell bits.now) w) }
+    ensures elements { IfOk result (λ v. (w : ℕ) → w < count → lent L.means v.items w ≡ packed-element L.Level.log (cell bits.now) w) }
 {
     let mut packed = Vec::new(heap);
     packed.resize(count, L::zero())?;
@@ -66,7 +66,7 @@ fn successor_of<L: Level>(
     requires carry { length opened.now.carry.items ≡ width L.Level.log }
     requires last { length opened.now.last.items ≡ width L.Level.log }
     requires eq_low { length eq_low.now ≡ width L.Level.log }
-    ensures { IfOk result (λ o. (p : Point L.Level.log) (bits : ℕ → ℕ) → Binary bits → L.Level.log ≤ length p → named view ≤ length p → Tabulated means arithmetic arithmetic.unit (low p) eq_low.now → Worked means arithmetic p view bits opened.now → option_map means o ≡ option_map (λ q. multilinear arithmetic (λ c. standing arithmetic (one_row_on q bits c)) p) view) }
+    ensures { IfOk result (λ o. (p : Point L.Level.log) (bits : ℕ → ℕ) → Binary bits → L.Level.log ≤ length p → named view ≤ length p → Tabulated L.means L.arithmetic L.arithmetic.unit (low p) eq_low.now → Worked L.means L.arithmetic p view bits opened.now → option_map L.means o ≡ option_map (λ q. multilinear L.arithmetic (λ c. standing L.arithmetic (one_row_on q bits c)) p) view) }
 {
     match view {
         Some(q) => Ok(Some(successor(heap, opened, eq_low, q)?)),
@@ -88,7 +88,7 @@ pub(crate) fn values<L: Level>(
     requires tensor { length opened.now.tensor.items ≡ width L.Level.log }
     requires carry { length opened.now.carry.items ≡ width L.Level.log }
     requires last { length opened.now.last.items ≡ width L.Level.log }
-    ensures { IfOk result (λ o. (bits : ℕ → ℕ) → Binary bits → Worked means arithmetic (map means point.now) view bits opened.now → values_of means o ≡ values_at arithmetic bits (map means point.now) view) }
+    ensures { IfOk result (λ o. (bits : ℕ → ℕ) → Binary bits → Worked L.means L.arithmetic (map L.means point.now) view bits opened.now → values_of L.means o ≡ values_at L.arithmetic bits (map L.means point.now) view) }
 {
     let eq_low = low_equality(heap, point)?;
     let incoming = incoming(heap, opened, eq_low.as_slice())?;
@@ -112,10 +112,10 @@ pub(crate) fn close<L: Level>(
 ) -> Result<L, BitRingSwitchError>
     requires narrow { L.Level.log ≤ 7 }
     requires eq_batch { length eq_batch.now ≡ width L.Level.log }
-    requires rows { RowsWithin (steps means stepping) (length slot.now) }
+    requires rows { RowsWithin (steps L.means stepping) (length slot.now) }
     requires scratch { length scratch.old ≡ 3 * width L.Level.log }
     ensures refusal { refused ring_switch_refusal result ≡ closing (length slot.now) (length z.now) }
-    ensures value { IfOk result (λ x. means x ≡ closing_value arithmetic (lent means eq_batch.now) (map means slot.now) (steps means stepping) (map means z.now)) }
+    ensures value { IfOk result (λ x. L.means x ≡ closing_value L.arithmetic (lent L.means eq_batch.now) (map L.means slot.now) (steps L.means stepping) (map L.means z.now)) }
 {
     check_closing(slot.len(), z.len())?;
     Ok(closing_value(slot, eq_batch, stepping, z, scratch))

@@ -35,11 +35,11 @@ fn weights_of<L: Level>(
     stepping: Option<Stepping<L>>,
 ) -> Result<Vec<L>, AllocError>
     requires narrow { L.Level.log ≤ 7 }
-    requires rows { RowsWithin (steps means stepping) 63 }
+    requires rows { RowsWithin (steps L.means stepping) 63 }
     requires count { length factors.now.outer.items * length factors.now.inner.items < 2 ^ 64 }
     requires eq_batch { length eq_batch.now ≡ width L.Level.log }
     ensures count { IfOk result (λ v. length v.items ≡ length factors.now.outer.items * length factors.now.inner.items) }
-    ensures weights { IfOk result (λ v. (p : Point L.Level.log) → Factors means arithmetic arithmetic.unit p factors.now.outer.items factors.now.inner.items → (i : ℕ) → i < 2 ^ length p → lent means v.items i ≡ weight arithmetic (lent means eq_batch.now) p (steps means stepping) i) }
+    ensures weights { IfOk result (λ v. (p : Point L.Level.log) → Factors L.means L.arithmetic L.arithmetic.unit p factors.now.outer.items factors.now.inner.items → (i : ℕ) → i < 2 ^ length p → lent L.means v.items i ≡ weight L.arithmetic (lent L.means eq_batch.now) p (steps L.means stepping) i) }
 {
     let equality = reading(factors);
     let mut weights = zeroes(heap, equality.num_evals())?;
@@ -60,7 +60,7 @@ fn initial_of<L: Level>(opened: &OpenedTable<L>, eq_batch: &[L], stepping: Optio
     requires tensor { length opened.now.tensor.items ≡ width L.Level.log }
     requires carry { length opened.now.carry.items ≡ width L.Level.log }
     requires last { length opened.now.last.items ≡ width L.Level.log }
-    ensures { means result ≡ initial_sum arithmetic (lent means eq_batch.now) (steps means stepping) (lent means opened.now.tensor.items) (lent means opened.now.carry.items) (lent means opened.now.last.items) }
+    ensures { L.means result ≡ initial_sum L.arithmetic (lent L.means eq_batch.now) (steps L.means stepping) (lent L.means opened.now.tensor.items) (lent L.means opened.now.carry.items) (lent L.means opened.now.last.items) }
 {
     let tensor = opened.tensor.as_slice();
     initial_sum(
@@ -80,16 +80,16 @@ pub fn batch<L: Level>(
     stepping: Option<Stepping<L>>,
 ) -> Result<BatchedSlot<L>, AllocError>
     requires narrow { L.Level.log ≤ 7 }
-    requires rows { RowsWithin (steps means stepping) 63 }
+    requires rows { RowsWithin (steps L.means stepping) 63 }
     requires count { length opened.now.equality.outer.items * length opened.now.equality.inner.items < 2 ^ 64 }
     requires batching { length batching.now ≡ L.Level.log }
     requires tensor { length opened.now.tensor.items ≡ width L.Level.log }
     requires carry { length opened.now.carry.items ≡ width L.Level.log }
     requires last { length opened.now.last.items ≡ width L.Level.log }
-    ensures table { IfOk result (λ b. Tabulated means arithmetic arithmetic.unit (map means batching.now) b.eq_batch.items) }
-    ensures initial { IfOk result (λ b. means b.initial ≡ initial_sum arithmetic (equality arithmetic (map means batching.now)) (steps means stepping) (lent means opened.now.tensor.items) (lent means opened.now.carry.items) (lent means opened.now.last.items)) }
+    ensures table { IfOk result (λ b. Tabulated L.means L.arithmetic L.arithmetic.unit (map L.means batching.now) b.eq_batch.items) }
+    ensures initial { IfOk result (λ b. L.means b.initial ≡ initial_sum L.arithmetic (equality L.arithmetic (map L.means batching.now)) (steps L.means stepping) (lent L.means opened.now.tensor.items) (lent L.means opened.now.carry.items) (lent L.means opened.now.last.items)) }
     ensures count { IfOk result (λ b. length b.weights.items ≡ length opened.now.equality.outer.items * length opened.now.equality.inner.items) }
-    ensures weights { IfOk result (λ b. (p : Point L.Level.log) → Factors means arithmetic arithmetic.unit p opened.now.equality.outer.items opened.now.equality.inner.items → (i : ℕ) → i < 2 ^ length p → lent means b.weights.items i ≡ weight arithmetic (equality arithmetic (map means batching.now)) p (steps means stepping) i) }
+    ensures weights { IfOk result (λ b. (p : Point L.Level.log) → Factors L.means L.arithmetic L.arithmetic.unit p opened.now.equality.outer.items opened.now.equality.inner.items → (i : ℕ) → i < 2 ^ length p → lent L.means b.weights.items i ≡ weight L.arithmetic (equality L.arithmetic (map L.means batching.now)) p (steps L.means stepping) i) }
 {
     let table = equality_of(heap, batching)?;
     let eq_batch = table.as_slice();

@@ -28,7 +28,7 @@ fn low_of<L: Level>(point: &[L]) -> &[L]
 // The equality table of the coordinates that one packed element absorbs.
 pub fn low_equality<L: Level>(heap: Global, point: &[L]) -> Result<Vec<L>, AllocError>
     requires { (L.Level.log ≤ 7) × (L.Level.log ≤ length point.now) }
-    ensures table { IfOk result (λ v. Tabulated means arithmetic arithmetic.unit (low (map means point.now)) v.items) }
+    ensures table { IfOk result (λ v. Tabulated L.means L.arithmetic L.arithmetic.unit (low (map L.means point.now)) v.items) }
     ensures count { IfOk result (λ v. length v.items ≡ width L.Level.log) }
 {
     let table = equality_of(heap, low_of(point))?;
@@ -44,7 +44,7 @@ pub fn incoming<L: Level>(
     requires narrow { L.Level.log ≤ 7 }
     requires tensor { length opened.now.tensor.items ≡ width L.Level.log }
     requires eq_low { length eq_low.now ≡ width L.Level.log }
-    ensures { IfOk result (λ x. (p : Point L.Level.log) (view : View) (bits : ℕ → ℕ) → Binary bits → L.Level.log ≤ length p → Tabulated means arithmetic arithmetic.unit (low p) eq_low.now → Worked means arithmetic p view bits opened.now → means x ≡ multilinear arithmetic (λ c. standing arithmetic (bits c)) p) }
+    ensures { IfOk result (λ x. (p : Point L.Level.log) (view : View) (bits : ℕ → ℕ) → Binary bits → L.Level.log ≤ length p → Tabulated L.means L.arithmetic L.arithmetic.unit (low p) eq_low.now → Worked L.means L.arithmetic p view bits opened.now → L.means x ≡ multilinear L.arithmetic (λ c. standing L.arithmetic (bits c)) p) }
 {
     let mut columns = zeroes(heap, dimension::<L>())?;
     Ok(incoming_claim(opened.tensor.as_slice(), eq_low, columns.as_mut_slice()))
@@ -63,7 +63,7 @@ pub fn successor<L: Level>(
     requires carry { length opened.now.carry.items ≡ width L.Level.log }
     requires last { length opened.now.last.items ≡ width L.Level.log }
     requires eq_low { length eq_low.now ≡ width L.Level.log }
-    ensures { IfOk result (λ x. (p : Point L.Level.log) (bits : ℕ → ℕ) → Binary bits → L.Level.log ≤ length p → q ≤ length p → Tabulated means arithmetic arithmetic.unit (low p) eq_low.now → Worked means arithmetic p (Some q) bits opened.now → means x ≡ multilinear arithmetic (λ c. standing arithmetic (one_row_on q bits c)) p) }
+    ensures { IfOk result (λ x. (p : Point L.Level.log) (bits : ℕ → ℕ) → Binary bits → L.Level.log ≤ length p → q ≤ length p → Tabulated L.means L.arithmetic L.arithmetic.unit (low p) eq_low.now → Worked L.means L.arithmetic p (Some q) bits opened.now → L.means x ≡ multilinear L.arithmetic (λ c. standing L.arithmetic (one_row_on q bits c)) p) }
 {
     let mut columns = zeroes(heap, dimension::<L>())?;
     let mut weights = zeroes(heap, dimension::<L>())?;

@@ -19,7 +19,7 @@ fn entries(variables: usize) -> usize
 // The equality table of a point.
 pub(crate) fn equality_of<L: Level>(heap: Global, point: &[L]) -> Result<Vec<L>, AllocError>
     requires { length point.now < 64 }
-    ensures { IfOk result (λ v. Tabulated means arithmetic arithmetic.unit (map means point.now) v.items) }
+    ensures { IfOk result (λ v. Tabulated L.means L.arithmetic L.arithmetic.unit (map L.means point.now) v.items) }
 {
     let mut table = zeroes(heap, entries(point.len()))?;
     equality_table(table.as_mut_slice(), point, L::one());
@@ -36,7 +36,7 @@ pub struct Factored<L> {
 // The two factors of the equality table of a point.
 pub(crate) fn factors_of<L: Level>(heap: Global, point: &[L]) -> Result<Factored<L>, AllocError>
     requires { length point.now < 64 }
-    ensures { IfOk result (λ f. Factors means arithmetic arithmetic.unit (map means point.now) f.outer.items f.inner.items) }
+    ensures { IfOk result (λ f. Factors L.means L.arithmetic L.arithmetic.unit (map L.means point.now) f.outer.items f.inner.items) }
 {
     let mut outer = zeroes(heap, entries(outer_variables(point.len())))?;
     let mut inner = zeroes(heap, entries(inner_variables(point.len())))?;

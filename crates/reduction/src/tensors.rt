@@ -25,7 +25,7 @@ pub(crate) fn tensor_of<L: Level>(
     requires narrow { L.Level.log ≤ 7 }
     requires slot { start + length equality.now.outer.now * length equality.now.inner.now ≤ length packed.now }
     ensures count { IfOk result (λ v. length v.items ≡ width L.Level.log) }
-    ensures rows { IfOk result (λ v. (p : Point L.Level.log) (view : View) (bits : ℕ → ℕ) → Opens means arithmetic p view bits packed.now start equality.now.outer.now equality.now.inner.now → lent means v.items ≡ opened arithmetic p bits) }
+    ensures rows { IfOk result (λ v. (p : Point L.Level.log) (view : View) (bits : ℕ → ℕ) → Opens L.means L.arithmetic p view bits packed.now start equality.now.outer.now equality.now.inner.now → lent L.means v.items ≡ opened L.arithmetic p bits) }
 {
     let mut rows = zeroes(heap, dimension::<L>())?;
     let mut scratch = zeroes(heap, scratch_len::<L>())?;
@@ -53,7 +53,7 @@ pub(crate) fn carry_of<L: Level>(
     requires filled { 0 < length equality.now.inner.now }
     requires slot { start + length equality.now.outer.now * length equality.now.inner.now ≤ length packed.now }
     ensures count { IfOk result (λ v. length v.items ≡ width L.Level.log) }
-    ensures rows { IfOk result (λ v. (p : Point L.Level.log) (q : ℕ) (bits : ℕ → ℕ) → Opens means arithmetic p (Some q) bits packed.now start equality.now.outer.now equality.now.inner.now → q ≤ length p → kept ≡ q - L.Level.log → lent means v.items ≡ opened_carry arithmetic p q bits) }
+    ensures rows { IfOk result (λ v. (p : Point L.Level.log) (q : ℕ) (bits : ℕ → ℕ) → Opens L.means L.arithmetic p (Some q) bits packed.now start equality.now.outer.now equality.now.inner.now → q ≤ length p → kept ≡ q - L.Level.log → lent L.means v.items ≡ opened_carry L.arithmetic p q bits) }
 {
     let mut rows = zeroes(heap, dimension::<L>())?;
     let mut shifted = zeroes(heap, equality.block_len())?;
@@ -84,7 +84,7 @@ pub(crate) fn last_of<L: Level>(
     requires slot { start + length equality.now.outer.now * length equality.now.inner.now ≤ length packed.now }
     requires columns { length equality.now.outer.now * length equality.now.inner.now % 2 ^ kept ≡ 0 }
     ensures count { IfOk result (λ v. length v.items ≡ width L.Level.log) }
-    ensures rows { IfOk result (λ v. (p : Point L.Level.log) (q : ℕ) (bits : ℕ → ℕ) → Opens means arithmetic p (Some q) bits packed.now start equality.now.outer.now equality.now.inner.now → q ≤ length p → kept ≡ q - L.Level.log → lent means v.items ≡ opened_last arithmetic p q bits) }
+    ensures rows { IfOk result (λ v. (p : Point L.Level.log) (q : ℕ) (bits : ℕ → ℕ) → Opens L.means L.arithmetic p (Some q) bits packed.now start equality.now.outer.now equality.now.inner.now → q ≤ length p → kept ≡ q - L.Level.log → lent L.means v.items ≡ opened_last L.arithmetic p q bits) }
 {
     let mut rows = zeroes(heap, dimension::<L>())?;
     opening::last(packed, start, equality, kept, rows.as_mut_slice());

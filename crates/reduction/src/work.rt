@@ -50,8 +50,8 @@ fn successor_tensors<L: Level>(
     requires columns { WholeColumns kept (length equality.now.outer.now * length equality.now.inner.now) }
     ensures carry_rows { IfOk result (λ t. length t.carry.items ≡ width L.Level.log) }
     ensures last_rows { IfOk result (λ t. length t.last.items ≡ width L.Level.log) }
-    ensures carry { IfOk result (λ t. (p : Point L.Level.log) (q : ℕ) (bits : ℕ → ℕ) → Opens means arithmetic p (Some q) bits packed.now start equality.now.outer.now equality.now.inner.now → q ≤ length p → kept ≡ Some (q - L.Level.log) → lent means t.carry.items ≡ opened_carry arithmetic p q bits) }
-    ensures last { IfOk result (λ t. (p : Point L.Level.log) (q : ℕ) (bits : ℕ → ℕ) → Opens means arithmetic p (Some q) bits packed.now start equality.now.outer.now equality.now.inner.now → q ≤ length p → kept ≡ Some (q - L.Level.log) → lent means t.last.items ≡ opened_last arithmetic p q bits) }
+    ensures carry { IfOk result (λ t. (p : Point L.Level.log) (q : ℕ) (bits : ℕ → ℕ) → Opens L.means L.arithmetic p (Some q) bits packed.now start equality.now.outer.now equality.now.inner.now → q ≤ length p → kept ≡ Some (q - L.Level.log) → lent L.means t.carry.items ≡ opened_carry L.arithmetic p q bits) }
+    ensures last { IfOk result (λ t. (p : Point L.Level.log) (q : ℕ) (bits : ℕ → ℕ) → Opens L.means L.arithmetic p (Some q) bits packed.now start equality.now.outer.now equality.now.inner.now → q ≤ length p → kept ≡ Some (q - L.Level.log) → lent L.means t.last.items ≡ opened_last L.arithmetic p q bits) }
 {
     match kept {
         Some(kept) => {
@@ -79,7 +79,7 @@ pub fn work<L: Level>(
     requires short { length point.now < 64 }
     requires rows { named view ≤ length point.now }
     requires elements { length packed.now ≡ 2 ^ (length point.now - L.Level.log) }
-    ensures { IfOk result (λ w. (bits : ℕ → ℕ) → ((i : ℕ) → i < length packed.now → lent means packed.now i ≡ packed-element L.Level.log bits i) → Worked means arithmetic (map means point.now) view bits w) }
+    ensures { IfOk result (λ w. (bits : ℕ → ℕ) → ((i : ℕ) → i < length packed.now → lent L.means packed.now i ≡ packed-element L.Level.log bits i) → Worked L.means L.arithmetic (map L.means point.now) view bits w) }
 {
     let (start, coordinates) = slot(point, view);
     let factors = factors_of(heap, coordinates)?;

@@ -1,6 +1,7 @@
 // The lines of a report: the values of an opening, one a line, until a step is refused.
 // What a whole report is, whichever way its values are computed, is said in specs/Report.antt.
 #![tactic(auto)]
+
 pub mod finish;
 pub mod lines;
 pub mod opening;

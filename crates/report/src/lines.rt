@@ -30,7 +30,7 @@ pub fn element_line<L: Level>(
     word: &str,
     x: L,
 ) -> Result<(), AllocError>
-    ensures { OnOk result (string_bytes out.new ≡ string_bytes out.old ++ line word.now (element_text (means x))) }
+    ensures { OnOk result (string_bytes out.new ≡ string_bytes out.old ++ line word.now (element_text (L.means x))) }
 {
     let text = element_text(heap, x)?;
     text_line(heap, out, word, text.as_str())
@@ -51,7 +51,7 @@ pub fn optional_line<L: Level>(
     word: &str,
     x: Option<L>,
 ) -> Result<(), AllocError>
-    ensures { OnOk result (string_bytes out.new ≡ string_bytes out.old ++ line word.now (optional_text (option_map means x))) }
+    ensures { OnOk result (string_bytes out.new ≡ string_bytes out.old ++ line word.now (optional_text (option_map L.means x))) }
 {
     match x {
         Some(x) => element_line(heap, out, word, x),
@@ -62,7 +62,7 @@ pub fn optional_line<L: Level>(
 // The element at a place of a slice.
 fn element_at<L: Level>(elements: &[L], i: usize) -> L
     requires { i < length elements.now }
-    ensures { means result ≡ lent means elements.now i }
+    ensures { L.means result ≡ lent L.means elements.now i }
 {
     elements[i]
 }
@@ -76,7 +76,7 @@ fn line_at<L: Level>(
     i: usize,
 ) -> Result<(), AllocError>
     requires { i < length elements.now }
-    ensures { OnOk result (string_bytes out.new ≡ string_bytes out.old ++ line word.now (element_text (lent means elements.now i))) }
+    ensures { OnOk result (string_bytes out.new ≡ string_bytes out.old ++ line word.now (element_text (lent L.means elements.now i))) }
 {
     element_line(heap, out, word, element_at(elements, i))
 }
@@ -88,7 +88,7 @@ pub fn element_lines<L: Level>(
     word: &str,
     elements: &[L],
 ) -> Result<(), AllocError>
-    ensures { OnOk result (string_bytes out.new ≡ string_bytes out.old ++ lines_below (length elements.now) (λ i. line word.now (element_text (lent means elements.now i)))) }
+    ensures { OnOk result (string_bytes out.new ≡ string_bytes out.old ++ lines_below (length elements.now) (λ i. line word.now (element_text (lent L.means elements.now i)))) }
 {
     for i in 0..elements.len() {
         line_at(heap, out, word, elements, i)?;

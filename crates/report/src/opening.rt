@@ -27,7 +27,7 @@ fn claim_lines<L: Level>(
     out: &mut String,
     opening: &Opening<L>,
 ) -> Result<(), AllocError>
-    ensures { OnOk result (string_bytes out.new ≡ (string_bytes out.old ++ line (codes "incoming") (element_text (means opening.now.incoming))) ++ line (codes "successor") (optional_text (option_map means opening.now.successor))) }
+    ensures { OnOk result (string_bytes out.new ≡ (string_bytes out.old ++ line (codes "incoming") (element_text (L.means opening.now.incoming))) ++ line (codes "successor") (optional_text (option_map L.means opening.now.successor))) }
 {
     element_line(heap, out, "incoming", opening.incoming)?;
     optional_line(heap, out, "successor", opening.successor)
@@ -51,7 +51,7 @@ pub fn opening_lines<L: Level>(
     out: &mut String,
     opening: &Opening<L>,
 ) -> Result<(), AllocError>
-    ensures { OnOk result (string_bytes out.new ≡ string_bytes out.old ++ opening_text (values_of means opening.now)) }
+    ensures { OnOk result (string_bytes out.new ≡ string_bytes out.old ++ opening_text (values_of L.means opening.now)) }
 {
     claim_lines(heap, out, opening)?;
     prefix_lines(heap, out, opening)?;

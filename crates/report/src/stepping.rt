@@ -8,7 +8,7 @@ use plain::stepping::Stepping;
 
 // What the challenge adds where row variables are kept.
 pub fn stepping_of<L: Level>(rows: Option<usize>, challenge: Option<L>) -> Option<Stepping<L>>
-    ensures { steps means result ≡ stepped rows (option_map means challenge) }
+    ensures { steps L.means result ≡ stepped rows (option_map L.means challenge) }
 {
     match (rows, challenge) {
         (Some(rows), Some(challenge)) => Some(Stepping { rows, challenge }),

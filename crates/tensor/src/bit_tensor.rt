@@ -25,7 +25,7 @@ impl<'a, L: Level> BitTensor<'a, L> {
     pub fn clear(&mut self)
         ensures same { self.new.rows.ghost_name ≡ self.old.rows.ghost_name }
         ensures len { length self.new.rows.now ≡ length self.old.rows.now }
-        ensures rows { lent means self.new.rows.now ≡ nothing }
+        ensures rows { lent L.means self.new.rows.now ≡ nothing }
     {
         rows::clear(self.rows);
     }
@@ -36,7 +36,7 @@ impl<'a, L: Level> BitTensor<'a, L> {
         requires rows { length self.old.rows.now ≡ width L.Level.log }
         ensures same { self.new.rows.ghost_name ≡ self.old.rows.ghost_name }
         ensures len { length self.new.rows.now ≡ length self.old.rows.now }
-        ensures rows { lent means self.new.rows.now ≡ one arithmetic }
+        ensures rows { lent L.means self.new.rows.now ≡ one L.arithmetic }
     {
         rows::set_one(self.rows);
     }
@@ -47,7 +47,7 @@ impl<'a, L: Level> BitTensor<'a, L> {
         requires rows { length self.old.rows.now ≡ width L.Level.log }
         ensures same { self.new.rows.ghost_name ≡ self.old.rows.ghost_name }
         ensures len { length self.new.rows.now ≡ length self.old.rows.now }
-        ensures rows { lent means self.new.rows.now ≡ add (lent means self.old.rows.now) (exterior (means a) (means b)) }
+        ensures rows { lent L.means self.new.rows.now ≡ add (lent L.means self.old.rows.now) (exterior (L.means a) (L.means b)) }
     {
         rows::add_exterior_product(self.rows, a, b);
     }
@@ -57,7 +57,7 @@ impl<'a, L: Level> BitTensor<'a, L> {
         requires { length other.now ≡ length self.old.rows.now }
         ensures same { self.new.rows.ghost_name ≡ self.old.rows.ghost_name }
         ensures len { length self.new.rows.now ≡ length self.old.rows.now }
-        ensures rows { lent means self.new.rows.now ≡ add (lent means self.old.rows.now) (lent means other.now) }
+        ensures rows { lent L.means self.new.rows.now ≡ add (lent L.means self.old.rows.now) (lent L.means other.now) }
     {
         rows::add(self.rows, other);
     }
@@ -66,7 +66,7 @@ impl<'a, L: Level> BitTensor<'a, L> {
     pub fn scale_rows(&mut self, b: L)
         ensures same { self.new.rows.ghost_name ≡ self.old.rows.ghost_name }
         ensures len { length self.new.rows.now ≡ length self.old.rows.now }
-        ensures rows { lent means self.new.rows.now ≡ scale_rows arithmetic (means b) (lent means self.old.rows.now) }
+        ensures rows { lent L.means self.new.rows.now ≡ scale_rows L.arithmetic (L.means b) (lent L.means self.old.rows.now) }
     {
         rows::scale_rows(self.rows, b);
     }
@@ -78,7 +78,7 @@ impl<'a, L: Level> BitTensor<'a, L> {
         requires other { length other.now ≡ width L.Level.log }
         ensures same { self.new.rows.ghost_name ≡ self.old.rows.ghost_name }
         ensures len { length self.new.rows.now ≡ length self.old.rows.now }
-        ensures rows { lent means self.new.rows.now ≡ add (lent means self.old.rows.now) (scale_columns arithmetic (means a) (lent means other.now)) }
+        ensures rows { lent L.means self.new.rows.now ≡ add (lent L.means self.old.rows.now) (scale_columns L.arithmetic (L.means a) (lent L.means other.now)) }
     {
         columns::add_scaled_columns(self.rows, other, a);
     }
@@ -90,8 +90,8 @@ impl<'a, L: Level> BitTensor<'a, L> {
         requires scratch { length scratch.old ≡ width L.Level.log }
         ensures same { self.new.rows.ghost_name ≡ self.old.rows.ghost_name }
         ensures len { length self.new.rows.now ≡ length self.old.rows.now }
-        ensures rows { lent means self.new.rows.now ≡ scale_columns arithmetic (means a) (lent means self.old.rows.now) }
-        ensures scratch { lent means scratch.new ≡ nothing }
+        ensures rows { lent L.means self.new.rows.now ≡ scale_columns L.arithmetic (L.means a) (lent L.means self.old.rows.now) }
+        ensures scratch { lent L.means scratch.new ≡ nothing }
     {
         columns::scale_columns(self.rows, a, scratch);
     }
@@ -103,8 +103,8 @@ impl<'a, L: Level> BitTensor<'a, L> {
         requires scratch { length scratch.old ≡ width L.Level.log }
         ensures same { self.new.rows.ghost_name ≡ self.old.rows.ghost_name }
         ensures len { length self.new.rows.now ≡ length self.old.rows.now }
-        ensures rows { lent means self.new.rows.now ≡ equality_factor arithmetic (means a) (means b) (lent means self.old.rows.now) }
-        ensures scratch { lent means scratch.new ≡ nothing }
+        ensures rows { lent L.means self.new.rows.now ≡ equality_factor L.arithmetic (L.means a) (L.means b) (lent L.means self.old.rows.now) }
+        ensures scratch { lent L.means scratch.new ≡ nothing }
     {
         columns::mul_equality_factor(self.rows, a, b, scratch);
     }
@@ -117,8 +117,8 @@ impl<'a, L: Level> BitTensor<'a, L> {
         requires points { length other.now ≡ length point.now }
         ensures same { self.new.rows.ghost_name ≡ self.old.rows.ghost_name }
         ensures len { length self.new.rows.now ≡ length self.old.rows.now }
-        ensures rows { lent means self.new.rows.now ≡ equality_element arithmetic (map means point.now) (map means other.now) }
-        ensures scratch { lent means scratch.new ≡ nothing }
+        ensures rows { lent L.means self.new.rows.now ≡ equality_element L.arithmetic (map L.means point.now) (map L.means other.now) }
+        ensures scratch { lent L.means scratch.new ≡ nothing }
     {
         equality::equality_element(self.rows, point, other, scratch);
     }
@@ -131,8 +131,8 @@ impl<'a, L: Level> BitTensor<'a, L> {
         requires points { length other.now ≡ length point.now }
         ensures same { self.new.rows.ghost_name ≡ self.old.rows.ghost_name }
         ensures len { length self.new.rows.now ≡ length self.old.rows.now }
-        ensures rows { lent means self.new.rows.now ≡ successor_element arithmetic (map means point.now) (map means other.now) }
-        ensures scratch { lent means scratch.new ≡ nothing }
+        ensures rows { lent L.means self.new.rows.now ≡ successor_element L.arithmetic (map L.means point.now) (map L.means other.now) }
+        ensures scratch { lent L.means scratch.new ≡ nothing }
     {
         successor::successor_element(self.rows, point, other, scratch);
     }
@@ -142,7 +142,7 @@ impl<'a, L: Level> BitTensor<'a, L> {
         requires narrow { L.Level.log ≤ 7 }
         requires rows { length self.now.rows.now ≡ width L.Level.log }
         requires read { v < width L.Level.log }
-        ensures { means result ≡ column (lent means self.now.rows.now) v }
+        ensures { L.means result ≡ column (lent L.means self.now.rows.now) v }
     {
         columns::column(self.elements(), v)
     }
@@ -152,7 +152,7 @@ impl<'a, L: Level> BitTensor<'a, L> {
         requires narrow { L.Level.log ≤ 7 }
         requires rows { length self.now.rows.now ≡ width L.Level.log }
         requires out { length out.old ≡ width L.Level.log }
-        ensures { lent means out.new ≡ column (lent means self.now.rows.now) }
+        ensures { lent L.means out.new ≡ column (lent L.means self.now.rows.now) }
     {
         columns::columns(self.elements(), out);
     }
@@ -161,7 +161,7 @@ impl<'a, L: Level> BitTensor<'a, L> {
     pub fn batch_rows(&self, weights: &[L]) -> L
         requires rows { length self.now.rows.now ≡ width L.Level.log }
         requires weights { length weights.now ≡ width L.Level.log }
-        ensures { means result ≡ batch_rows arithmetic (lent means weights.now) (lent means self.now.rows.now) }
+        ensures { L.means result ≡ batch_rows L.arithmetic (lent L.means weights.now) (lent L.means self.now.rows.now) }
     {
         rows::batch_rows(self.elements(), weights)
     }

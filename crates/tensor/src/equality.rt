@@ -13,8 +13,8 @@ pub fn equality_factors<L: Level>(rows: &mut [L], point: &[L], other: &[L], scra
     requires rows { length rows.old ≡ width L.Level.log }
     requires scratch { length scratch.old ≡ width L.Level.log }
     requires points { length other.now ≡ length point.now }
-    ensures rows { lent means rows.new ≡ equality_factors arithmetic (map means point.now) (map means other.now) (lent means rows.old) }
-    ensures scratch { lent means scratch.new ≡ nothing }
+    ensures rows { lent L.means rows.new ≡ equality_factors L.arithmetic (map L.means point.now) (map L.means other.now) (lent L.means rows.old) }
+    ensures scratch { lent L.means scratch.new ≡ nothing }
 {
     clear(scratch);
     for i in 0..point.len() {
@@ -29,8 +29,8 @@ pub fn equality_element<L: Level>(rows: &mut [L], point: &[L], other: &[L], scra
     requires rows { length rows.old ≡ width L.Level.log }
     requires scratch { length scratch.old ≡ width L.Level.log }
     requires points { length other.now ≡ length point.now }
-    ensures rows { lent means rows.new ≡ equality_element arithmetic (map means point.now) (map means other.now) }
-    ensures scratch { lent means scratch.new ≡ nothing }
+    ensures rows { lent L.means rows.new ≡ equality_element L.arithmetic (map L.means point.now) (map L.means other.now) }
+    ensures scratch { lent L.means scratch.new ≡ nothing }
 {
     set_one(rows);
     equality_factors(rows, point, other, scratch);

@@ -16,15 +16,15 @@ struct Carry<L> {
 
 // One plus x.
 fn one_plus<L: Level>(x: L) -> L
-    ensures { means result ≡ plus arithmetic.unit (means x) }
+    ensures { L.means result ≡ plus L.arithmetic.unit (L.means x) }
 {
     L::one().add(x)
 }
 
 // The carry past a coordinate a of the first point and b of the second.
 fn passed<L: Level>(carry: Carry<L>, a: L, b: L) -> Carry<L>
-    ensures first { means result.first ≡ arithmetic.times (means a) (means carry.first) }
-    ensures second { means result.second ≡ arithmetic.times (plus arithmetic.unit (means b)) (means carry.second) }
+    ensures first { L.means result.first ≡ L.arithmetic.times (L.means a) (L.means carry.first) }
+    ensures second { L.means result.second ≡ L.arithmetic.times (plus L.arithmetic.unit (L.means b)) (L.means carry.second) }
 {
     Carry {
         first: a.mul(carry.first),
@@ -37,8 +37,8 @@ fn settle<L: Level>(rows: &mut [L], a: L, b: L, carry: Carry<L>, scratch: &mut [
     requires narrow { L.Level.log ≤ 7 }
     requires rows { length rows.old ≡ width L.Level.log }
     requires scratch { length scratch.old ≡ width L.Level.log }
-    ensures rows { lent means rows.new ≡ add (equality_factor arithmetic (means a) (means b) (lent means rows.old)) (exterior (arithmetic.times (means carry.first) (plus arithmetic.unit (means a))) (arithmetic.times (means carry.second) (means b))) }
-    ensures scratch { lent means scratch.new ≡ nothing }
+    ensures rows { lent L.means rows.new ≡ add (equality_factor L.arithmetic (L.means a) (L.means b) (lent L.means rows.old)) (exterior (L.arithmetic.times (L.means carry.first) (plus L.arithmetic.unit (L.means a))) (L.arithmetic.times (L.means carry.second) (L.means b))) }
+    ensures scratch { lent L.means scratch.new ≡ nothing }
 {
     mul_equality_factor(rows, a, b, scratch);
     add_exterior_product(rows, carry.first.mul(one_plus(a)), carry.second.mul(b));
@@ -50,8 +50,8 @@ pub fn successor_element<L: Level>(rows: &mut [L], point: &[L], other: &[L], scr
     requires rows { length rows.old ≡ width L.Level.log }
     requires scratch { length scratch.old ≡ width L.Level.log }
     requires points { length other.now ≡ length point.now }
-    ensures rows { lent means rows.new ≡ successor_element arithmetic (map means point.now) (map means other.now) }
-    ensures scratch { lent means scratch.new ≡ nothing }
+    ensures rows { lent L.means rows.new ≡ successor_element L.arithmetic (map L.means point.now) (map L.means other.now) }
+    ensures scratch { lent L.means scratch.new ≡ nothing }
 {
     clear(rows);
     clear(scratch);

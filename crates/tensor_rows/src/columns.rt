@@ -14,7 +14,7 @@ fn add_scaled_row<L: Level>(rows: &mut [L], u: usize, row: L, a: L)
     requires narrow { L.Level.log ≤ 7 }
     requires rows { length rows.old ≡ width L.Level.log }
     requires place { u < width L.Level.log }
-    ensures { lent means rows.new ≡ add (lent means rows.old) (exterior (arithmetic.times (means a) (basis L.Level.log u)) (means row)) }
+    ensures { lent L.means rows.new ≡ add (lent L.means rows.old) (exterior (L.arithmetic.times (L.means a) (basis L.Level.log u)) (L.means row)) }
 {
     if !row.equals(L::zero()) {
         add_exterior_product(rows, a.mul(basis(u)), row);
@@ -26,7 +26,7 @@ pub fn add_scaled_columns<L: Level>(rows: &mut [L], other: &[L], a: L)
     requires narrow { L.Level.log ≤ 7 }
     requires rows { length rows.old ≡ width L.Level.log }
     requires other { length other.now ≡ width L.Level.log }
-    ensures { lent means rows.new ≡ add (lent means rows.old) (scale_columns arithmetic (means a) (lent means other.now)) }
+    ensures { lent L.means rows.new ≡ add (lent L.means rows.old) (scale_columns L.arithmetic (L.means a) (lent L.means other.now)) }
 {
     for u in 0..other.len() {
         add_scaled_row(rows, u, other[u], a);
@@ -38,8 +38,8 @@ pub fn scale_columns<L: Level>(rows: &mut [L], a: L, scratch: &mut [L])
     requires narrow { L.Level.log ≤ 7 }
     requires rows { length rows.old ≡ width L.Level.log }
     requires scratch { length scratch.old ≡ width L.Level.log }
-    ensures rows { lent means rows.new ≡ scale_columns arithmetic (means a) (lent means rows.old) }
-    ensures scratch { lent means scratch.new ≡ nothing }
+    ensures rows { lent L.means rows.new ≡ scale_columns L.arithmetic (L.means a) (lent L.means rows.old) }
+    ensures scratch { lent L.means scratch.new ≡ nothing }
 {
     clear(scratch);
     add_scaled_columns(scratch, rows, a);
@@ -49,7 +49,7 @@ pub fn scale_columns<L: Level>(rows: &mut [L], a: L, scratch: &mut [L])
 
 // One row under the equality factor: the row, the row with its columns scaled, and the row times b.
 fn factored_row<L: Level>(row: L, scaled: L, b: L) -> L
-    ensures { means result ≡ plus (plus (means row) (means scaled)) (arithmetic.times (means b) (means row)) }
+    ensures { L.means result ≡ plus (plus (L.means row) (L.means scaled)) (L.arithmetic.times (L.means b) (L.means row)) }
 {
     row.add(scaled).add(b.mul(row))
 }
@@ -57,7 +57,7 @@ fn factored_row<L: Level>(row: L, scaled: L, b: L) -> L
 // Adds the rows `scaled`, and the rows themselves times b.
 fn add_scaled<L: Level>(rows: &mut [L], scaled: &[L], b: L)
     requires { length scaled.now ≡ length rows.old }
-    ensures { lent means rows.new ≡ add (add (lent means rows.old) (lent means scaled.now)) (scale_rows arithmetic (means b) (lent means rows.old)) }
+    ensures { lent L.means rows.new ≡ add (add (lent L.means rows.old) (lent L.means scaled.now)) (scale_rows L.arithmetic (L.means b) (lent L.means rows.old)) }
 {
     for u in 0..rows.len() {
         rows[u] = factored_row(rows[u], scaled[u], b);
@@ -69,8 +69,8 @@ pub fn mul_equality_factor<L: Level>(rows: &mut [L], a: L, b: L, scratch: &mut [
     requires narrow { L.Level.log ≤ 7 }
     requires rows { length rows.old ≡ width L.Level.log }
     requires scratch { length scratch.old ≡ width L.Level.log }
-    ensures rows { lent means rows.new ≡ equality_factor arithmetic (means a) (means b) (lent means rows.old) }
-    ensures scratch { lent means scratch.new ≡ nothing }
+    ensures rows { lent L.means rows.new ≡ equality_factor L.arithmetic (L.means a) (L.means b) (lent L.means rows.old) }
+    ensures scratch { lent L.means scratch.new ≡ nothing }
 {
     clear(scratch);
     add_scaled_columns(scratch, rows, a);
@@ -84,7 +84,7 @@ fn column_with_row<L: Level>(below: u128, u: usize, row: L, v: usize) -> u128
     requires place { u < 128 }
     requires read { v < 128 }
     requires fits { below < 2 ^ u }
-    ensures { result ≡ below + coordinate (means row) v * 2 ^ u }
+    ensures { result ≡ below + coordinate (L.means row) v * 2 ^ u }
 {
     with_coordinate(below, u, coordinate(coordinates(row), v))
 }
@@ -94,7 +94,7 @@ pub fn column<L: Level>(rows: &[L], v: usize) -> L
     requires narrow { L.Level.log ≤ 7 }
     requires rows { length rows.now ≡ width L.Level.log }
     requires read { v < width L.Level.log }
-    ensures { means result ≡ column (lent means rows.now) v }
+    ensures { L.means result ≡ column (lent L.means rows.now) v }
 {
     let mut column = 0;
     for u in 0..rows.len() {
@@ -107,7 +107,7 @@ pub fn column<L: Level>(rows: &[L], v: usize) -> L
 fn row_coordinates<L: Level>(rows: &[L]) -> [u128; 128]
     requires narrow { L.Level.log ≤ 7 }
     requires rows { length rows.now ≡ width L.Level.log }
-    ensures { (u : ℕ) → u < width L.Level.log → slice_index result u ≡ (lent means rows.now u).number }
+    ensures { (u : ℕ) → u < width L.Level.log → slice_index result u ≡ (lent L.means rows.now u).number }
 {
     let mut source = [0; 128];
     for u in 0..rows.len() {
@@ -141,7 +141,7 @@ pub fn columns<L: Level>(rows: &[L], out: &mut [L])
     requires narrow { L.Level.log ≤ 7 }
     requires rows { length rows.now ≡ width L.Level.log }
     requires out { length out.old ≡ width L.Level.log }
-    ensures { lent means out.new ≡ column (lent means rows.now) }
+    ensures { lent L.means out.new ≡ column (lent L.means rows.now) }
 {
     let source = row_coordinates(rows);
     for v in 0..out.len() {

@@ -9,7 +9,7 @@ use level::level::Level;
 
 // Sets every row to zero.
 pub fn clear<L: Level>(rows: &mut [L])
-    ensures { lent means rows.new ≡ nothing }
+    ensures { lent L.means rows.new ≡ nothing }
 {
     for u in 0..rows.len() {
         rows[u] = L::zero();
@@ -18,7 +18,7 @@ pub fn clear<L: Level>(rows: &mut [L])
 
 // x, with y added where the lowest of the coordinates is set.
 fn add_where_set<L: Level>(x: L, coordinates: u8, y: L) -> L
-    ensures { means result ≡ plus (means x) (at_bit (coordinates % 2) (means y)) }
+    ensures { L.means result ≡ plus (L.means x) (at_bit (coordinates % 2) (L.means y)) }
 {
     if coordinates % 2 == 1 { x.add(y) } else { x }
 }
@@ -26,9 +26,9 @@ fn add_where_set<L: Level>(x: L, coordinates: u8, y: L) -> L
 // Adds b to each of `count` rows from `start` on whose coordinate is set, the lowest first.
 fn add_from<L: Level>(rows: &mut [L], start: usize, count: usize, coordinates: u8, b: L)
     requires { start + count ≤ length rows.old }
-    ensures added { (i : ℕ) → i < count → lent means rows.new (start + i) ≡ plus (lent means rows.old (start + i)) (at_bit (coordinates / 2 ^ i % 2) (means b)) }
-    ensures before { (u : ℕ) → u < start → lent means rows.new u ≡ lent means rows.old u }
-    ensures after { (u : ℕ) → start + count ≤ u → lent means rows.new u ≡ lent means rows.old u }
+    ensures added { (i : ℕ) → i < count → lent L.means rows.new (start + i) ≡ plus (lent L.means rows.old (start + i)) (at_bit (coordinates / 2 ^ i % 2) (L.means b)) }
+    ensures before { (u : ℕ) → u < start → lent L.means rows.new u ≡ lent L.means rows.old u }
+    ensures after { (u : ℕ) → start + count ≤ u → lent L.means rows.new u ≡ lent L.means rows.old u }
 {
     let mut rest = coordinates;
     for i in 0..count {
@@ -57,7 +57,7 @@ fn byte_width<L: Level>() -> usize
 pub fn add_exterior_product<L: Level>(rows: &mut [L], a: L, b: L)
     requires narrow { L.Level.log ≤ 7 }
     requires rows { length rows.old ≡ width L.Level.log }
-    ensures { lent means rows.new ≡ add (lent means rows.old) (exterior (means a) (means b)) }
+    ensures { lent L.means rows.new ≡ add (lent L.means rows.old) (exterior (L.means a) (L.means b)) }
 {
     let bytes = a.to_bytes();
     for j in 0..byte_count::<L>() {
@@ -69,7 +69,7 @@ pub fn add_exterior_product<L: Level>(rows: &mut [L], a: L, b: L)
 pub fn set_one<L: Level>(rows: &mut [L])
     requires narrow { L.Level.log ≤ 7 }
     requires rows { length rows.old ≡ width L.Level.log }
-    ensures { lent means rows.new ≡ one arithmetic }
+    ensures { lent L.means rows.new ≡ one L.arithmetic }
 {
     clear(rows);
     add_exterior_product(rows, L::one(), L::one());
@@ -78,7 +78,7 @@ pub fn set_one<L: Level>(rows: &mut [L])
 // Adds other rows, row by row.
 pub fn add<L: Level>(rows: &mut [L], other: &[L])
     requires { length other.now ≡ length rows.old }
-    ensures { lent means rows.new ≡ add (lent means rows.old) (lent means other.now) }
+    ensures { lent L.means rows.new ≡ add (lent L.means rows.old) (lent L.means other.now) }
 {
     for u in 0..rows.len() {
         rows[u] = rows[u].add(other[u]);
@@ -87,7 +87,7 @@ pub fn add<L: Level>(rows: &mut [L], other: &[L])
 
 // Multiplies every row by b.
 pub fn scale_rows<L: Level>(rows: &mut [L], b: L)
-    ensures { lent means rows.new ≡ scale_rows arithmetic (means b) (lent means rows.old) }
+    ensures { lent L.means rows.new ≡ scale_rows L.arithmetic (L.means b) (lent L.means rows.old) }
 {
     for u in 0..rows.len() {
         rows[u] = b.mul(rows[u]);
@@ -96,7 +96,7 @@ pub fn scale_rows<L: Level>(rows: &mut [L], b: L)
 
 // A sum with a row times its weight.
 fn with_term<L: Level>(sum: L, weight: L, row: L) -> L
-    ensures { means result ≡ plus (means sum) (arithmetic.times (means weight) (means row)) }
+    ensures { L.means result ≡ plus (L.means sum) (L.arithmetic.times (L.means weight) (L.means row)) }
 {
     sum.add(weight.mul(row))
 }
@@ -105,7 +105,7 @@ fn with_term<L: Level>(sum: L, weight: L, row: L) -> L
 pub fn batch_rows<L: Level>(rows: &[L], weights: &[L]) -> L
     requires rows { length rows.now ≡ width L.Level.log }
     requires weights { length weights.now ≡ width L.Level.log }
-    ensures { means result ≡ batch_rows arithmetic (lent means weights.now) (lent means rows.now) }
+    ensures { L.means result ≡ batch_rows L.arithmetic (lent L.means weights.now) (lent L.means rows.now) }
 {
     let mut sum = L::zero();
     for u in 0..rows.len() {

@@ -1,5 +1,6 @@
 // The tower byte is three doublings over the bit: the same coordinates, product and generator, by way of the doublings themselves.
 #![tactic(auto)]
+
 ghost use Rattle.std.specs.Prelude.{◌≡◌};
 ghost use Rattle.level.specs.Bytes.{sixteen, from_sixteen};
 ghost use Rattle.level.specs.Element.{cut};

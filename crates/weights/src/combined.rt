@@ -18,7 +18,7 @@ fn last_entry(c: usize, rows: usize, len: usize) -> usize
 // Adds to every entry that ends a column of 2^rows entries its product with a factor.
 fn add_ending<L: Level>(table: &mut [L], rows: usize, factor: L)
     requires { rows < 64 }
-    ensures { (i : ℕ) → i < length table.old → lent means table.new i ≡ ended arithmetic rows (means factor) (lent means table.old) i }
+    ensures { (i : ℕ) → i < length table.old → lent L.means table.new i ≡ ended L.arithmetic rows (L.means factor) (lent L.means table.old) i }
 {
     let len = table.len();
     for c in 0..len >> rows {
@@ -32,9 +32,9 @@ fn add_ending<L: Level>(table: &mut [L], rows: usize, factor: L)
 // still as it was.
 fn carry_column<L: Level>(table: &mut [L], start: usize, end: usize, alpha: L)
     requires { (start < end) × (end ≤ length table.old) }
-    ensures carried { (i : ℕ) → start < i → i < end → lent means table.new i ≡ plus (lent means table.old i) (arithmetic.times (means alpha) (lent means table.old (i - 1))) }
-    ensures before { (i : ℕ) → i ≤ start → lent means table.new i ≡ lent means table.old i }
-    ensures after { (i : ℕ) → end ≤ i → lent means table.new i ≡ lent means table.old i }
+    ensures carried { (i : ℕ) → start < i → i < end → lent L.means table.new i ≡ plus (lent L.means table.old i) (L.arithmetic.times (L.means alpha) (lent L.means table.old (i - 1))) }
+    ensures before { (i : ℕ) → i ≤ start → lent L.means table.new i ≡ lent L.means table.old i }
+    ensures after { (i : ℕ) → end ≤ i → lent L.means table.new i ≡ lent L.means table.old i }
 {
     for i in (start + 1..end).rev() {
         table[i] = table[i].add(alpha.mul(table[i - 1]));
@@ -55,7 +55,7 @@ fn column_at(c: usize, rows: usize, len: usize) -> (usize, usize)
 // Adds to every entry that starts no column of 2^rows entries the entry before times alpha.
 fn add_carried<L: Level>(table: &mut [L], rows: usize, alpha: L)
     requires { rows < 64 }
-    ensures { (i : ℕ) → i < length table.old → lent means table.new i ≡ carried arithmetic rows (means alpha) (lent means table.old) i }
+    ensures { (i : ℕ) → i < length table.old → lent L.means table.new i ≡ carried L.arithmetic rows (L.means alpha) (lent L.means table.old) i }
 {
     let len = table.len();
     for c in 0..len.div_ceil(1 << rows) {
@@ -66,7 +66,7 @@ fn add_carried<L: Level>(table: &mut [L], rows: usize, alpha: L)
 
 // The square of an element.
 fn square<L: Level>(x: L) -> L
-    ensures { means result ≡ arithmetic.times (means x) (means x) }
+    ensures { L.means result ≡ L.arithmetic.times (L.means x) (L.means x) }
 {
     x.mul(x)
 }
@@ -75,7 +75,7 @@ fn square<L: Level>(x: L) -> L
 // column ends none, so it is still the settled one when it is carried.
 pub fn combine_weights<L: Level>(table: &mut [L], rows: usize, alpha: L)
     requires { rows < 64 }
-    ensures { (i : ℕ) → i < length table.old → lent means table.new i ≡ stepped arithmetic rows (means alpha) (lent means table.old) i }
+    ensures { (i : ℕ) → i < length table.old → lent L.means table.new i ≡ stepped L.arithmetic rows (L.means alpha) (lent L.means table.old) i }
 {
     add_ending(table, rows, square(alpha));
     add_carried(table, rows, alpha);

@@ -27,7 +27,7 @@ fn settle_block<L: Level>(block: &mut [L], inner: &[L], weight: L, sums: &[L], s
     requires equal { length block.old ≡ length inner.now }
     requires sums { length sums.now ≡ 256 * num_bytes L.Level.log }
     requires scaled { length scaled.old ≡ 256 * num_bytes L.Level.log }
-    ensures { (f : ℕ → Element L.Level.log) → Tabulated f (lent means sums.now) → (j : ℕ) → j < length inner.now → lent means block.new j ≡ subset_sum f (arithmetic.times (means weight) (lent means inner.now j)) }
+    ensures { (f : ℕ → Element L.Level.log) → Tabulated f (lent L.means sums.now) → (j : ℕ) → j < length inner.now → lent L.means block.new j ≡ subset_sum f (L.arithmetic.times (L.means weight) (lent L.means inner.now j)) }
 {
     scaled_sums_into(scaled, &CoordinateSums::new(sums), weight);
     CoordinateSums::new(scaled).apply_into(inner, block);
@@ -46,8 +46,8 @@ fn settle_at<L: Level>(
     requires room { start + length inner.now ≤ length table.old }
     requires sums { length sums.now ≡ 256 * num_bytes L.Level.log }
     requires scaled { length scaled.old ≡ 256 * num_bytes L.Level.log }
-    ensures before { (i : ℕ) → i < start → lent means table.new i ≡ lent means table.old i }
-    ensures block { (f : ℕ → Element L.Level.log) → Tabulated f (lent means sums.now) → (j : ℕ) → j < length inner.now → lent means table.new (start + j) ≡ subset_sum f (arithmetic.times (means weight) (lent means inner.now j)) }
+    ensures before { (i : ℕ) → i < start → lent L.means table.new i ≡ lent L.means table.old i }
+    ensures block { (f : ℕ → Element L.Level.log) → Tabulated f (lent L.means sums.now) → (j : ℕ) → j < length inner.now → lent L.means table.new (start + j) ≡ subset_sum f (L.arithmetic.times (L.means weight) (lent L.means inner.now j)) }
 {
     let end = start + inner.len();
     settle_block(&mut table[start..end], inner, weight, sums, scaled);
@@ -64,7 +64,7 @@ fn settle_blocks<L: Level>(
     requires table { length table.old ≡ length equality.now.outer.now * length equality.now.inner.now }
     requires sums { length sums.now ≡ 256 * num_bytes L.Level.log }
     requires scaled { length scaled.old ≡ 256 * num_bytes L.Level.log }
-    ensures { (f : ℕ → Element L.Level.log) → Tabulated f (lent means sums.now) → (b j : ℕ) → b < length equality.now.outer.now → j < length equality.now.inner.now → lent means table.new (b * length equality.now.inner.now + j) ≡ subset_sum f (arithmetic.times (lent means equality.now.outer.now b) (lent means equality.now.inner.now j)) }
+    ensures { (f : ℕ → Element L.Level.log) → Tabulated f (lent L.means sums.now) → (b j : ℕ) → b < length equality.now.outer.now → j < length equality.now.inner.now → lent L.means table.new (b * length equality.now.inner.now + j) ≡ subset_sum f (L.arithmetic.times (lent L.means equality.now.outer.now b) (lent L.means equality.now.inner.now j)) }
 {
     let len = equality.block_len();
     let outer = equality.outer;
@@ -85,7 +85,7 @@ fn settle<L: Level>(
     requires table { length table.old ≡ length equality.now.outer.now * length equality.now.inner.now }
     requires batching { length eq_batch.now ≡ width L.Level.log }
     requires scratch { length scratch.old ≡ 512 * num_bytes L.Level.log }
-    ensures { (b j : ℕ) → b < length equality.now.outer.now → j < length equality.now.inner.now → lent means table.new (b * length equality.now.inner.now + j) ≡ subset_sum (lent means eq_batch.now) (arithmetic.times (lent means equality.now.outer.now b) (lent means equality.now.inner.now j)) }
+    ensures { (b j : ℕ) → b < length equality.now.outer.now → j < length equality.now.inner.now → lent L.means table.new (b * length equality.now.inner.now + j) ≡ subset_sum (lent L.means eq_batch.now) (L.arithmetic.times (lent L.means equality.now.outer.now b) (lent L.means equality.now.inner.now j)) }
 {
     let (sums, scaled) = scratch.split_at_mut(256 * num_bytes::<L>());
     tabulate(sums, eq_batch);
@@ -104,8 +104,8 @@ pub fn settled_weights<L: Level>(
     requires table { length table.old ≡ length equality.now.outer.now * length equality.now.inner.now }
     requires batching { length eq_batch.now ≡ width L.Level.log }
     requires scratch { length scratch.old ≡ 512 * num_bytes L.Level.log }
-    ensures weights { (s : Element L.Level.log) (p : Point L.Level.log) → Factors means arithmetic s p equality.now.outer.now equality.now.inner.now → (i : ℕ) → i < 2 ^ length p → lent means table.new i ≡ subset_sum (lent means eq_batch.now) (entry arithmetic s p i) }
-    ensures scratch { lent means scratch.new ≡ nothing }
+    ensures weights { (s : Element L.Level.log) (p : Point L.Level.log) → Factors L.means L.arithmetic s p equality.now.outer.now equality.now.inner.now → (i : ℕ) → i < 2 ^ length p → lent L.means table.new i ≡ subset_sum (lent L.means eq_batch.now) (entry L.arithmetic s p i) }
+    ensures scratch { lent L.means scratch.new ≡ nothing }
 {
     settle(table, equality, eq_batch, scratch);
     clear(scratch);

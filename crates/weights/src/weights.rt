@@ -19,7 +19,7 @@ use plain::stepping::Stepping;
 // Combines settled weights under a batching's successor tensors.
 fn combine<L: Level>(table: &mut [L], stepping: Stepping<L>)
     requires { stepping.rows < 64 }
-    ensures { (i : ℕ) → i < length table.old → lent means table.new i ≡ stepped arithmetic stepping.rows (means stepping.challenge) (lent means table.old) i }
+    ensures { (i : ℕ) → i < length table.old → lent L.means table.new i ≡ stepped L.arithmetic stepping.rows (L.means stepping.challenge) (lent L.means table.old) i }
 {
     combine_weights(table, stepping.rows, stepping.challenge);
 }
@@ -34,12 +34,12 @@ pub fn weights_over<L: Level>(
     scratch: &mut [L],
 )
     requires narrow { L.Level.log ≤ 7 }
-    requires rows { RowsWithin (steps means stepping) 63 }
+    requires rows { RowsWithin (steps L.means stepping) 63 }
     requires table { length table.old ≡ length equality.now.outer.now * length equality.now.inner.now }
     requires batching { length eq_batch.now ≡ width L.Level.log }
     requires scratch { length scratch.old ≡ 512 * num_bytes L.Level.log }
-    ensures weights { (p : Point L.Level.log) → Factors means arithmetic arithmetic.unit p equality.now.outer.now equality.now.inner.now → (i : ℕ) → i < 2 ^ length p → lent means table.new i ≡ weight arithmetic (lent means eq_batch.now) p (steps means stepping) i }
-    ensures scratch { lent means scratch.new ≡ nothing }
+    ensures weights { (p : Point L.Level.log) → Factors L.means L.arithmetic L.arithmetic.unit p equality.now.outer.now equality.now.inner.now → (i : ℕ) → i < 2 ^ length p → lent L.means table.new i ≡ weight L.arithmetic (lent L.means eq_batch.now) p (steps L.means stepping) i }
+    ensures scratch { lent L.means scratch.new ≡ nothing }
 {
     settled_weights(table, equality, eq_batch, scratch);
     if let Some(stepping) = stepping {

@@ -14,12 +14,12 @@ unfolding low_chained
 returns g c =
     let k = g.L.Level.log in
     let m = g.L.Level.means in
-    let start : m c.from-bytes-start.result ≡ cut k c.args.x =
-    c.from-bytes-start.ensures ∙ ap (from_sixteen k) (to_le_bytes _ _ c.to-le-bytes.ensures) ∙ from_digits k _ c.requires ∙ ap (cut k) c.from.ensures in
-    let factor : m c.from-bytes-factor.result ≡ cut k c.args.y =
-    c.from-bytes-factor.ensures ∙ ap (from_sixteen k) (to_le_bytes _ _ c.to-le-bytes-2.ensures) ∙ from_digits k _ c.requires ∙ ap (cut k) c.from-2.ensures in
-    let long : length c.to-bytes-bytes.result ≡ 16 = ap length c.to-bytes-bytes.ensures ∙ bytes_are_coordinates.shown_length (m c.chain.result) in
-    let all : c.from-le-bytes.result ≡ (m c.chain.result).number =
-    from_le_bytes c.to-bytes-bytes.result _ long c.from-le-bytes.ensures ∙ ap le_number c.to-bytes-bytes.ensures ∙ le_sixteen (m c.chain.result) c.requires in
-    and_mask c.from-le-bytes.result 64
+    let start : m c.from_bytes-start.result ≡ cut k c.args.x =
+    c.from_bytes-start.ensures ∙ ap (from_sixteen k) (to_le_bytes _ _ c.to_le_bytes.ensures) ∙ from_digits k _ c.requires ∙ ap (cut k) c.from.ensures in
+    let factor : m c.from_bytes-factor.result ≡ cut k c.args.y =
+    c.from_bytes-factor.ensures ∙ ap (from_sixteen k) (to_le_bytes _ _ c.to_le_bytes-2.ensures) ∙ from_digits k _ c.requires ∙ ap (cut k) c.from-2.ensures in
+    let long : length c.to_bytes-bytes.result ≡ 16 = ap length c.to_bytes-bytes.ensures ∙ bytes_are_coordinates.shown_length (m c.chain.result) in
+    let all : c.from_le_bytes.result ≡ (m c.chain.result).number =
+    from_le_bytes c.to_bytes-bytes.result _ long c.from_le_bytes.ensures ∙ ap le_number c.to_bytes-bytes.ensures ∙ le_sixteen (m c.chain.result) c.requires in
+    and_mask c.from_le_bytes.result 64
     ∙ ap (λ n. n % 2 ^ 64) (all ∙ ap (λ z. z.number) (c.chain.ensures ∙ ap₂ (chained g.L.Level.arithmetic c.args.n) start factor))

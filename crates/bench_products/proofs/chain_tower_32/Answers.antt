@@ -3,4 +3,4 @@ use Rattle.bench_products.proofs.chain_tower_32.Goals as goal
 
 pub returns : goal.returns
 unfolding tower
-returns c = c.chain-low.ensures
+returns c = c.chain_low.ensures

@@ -10,7 +10,7 @@ pub loop-coordinate-preserved : goal.loop-coordinate-preserved
 loop-coordinate-preserved g c =
     let u = c.loop-coordinate.coordinate in
     placed_more g.L.Level.means _ c.loop-coordinate.out u _ _ c.lone.ensures
-    (omega (arith, lone_within u c.num-bytes-coordinate-end.result c.loop-coordinate-test.true)) c.loop-coordinate.invariant c.scaled-weight.ensures
+    (omega (arith, lone_within u c.num_bytes-coordinate-end.result c.loop-coordinate-test.true)) c.loop-coordinate.invariant c.scaled_weight.ensures
 
 pub returns : goal.returns
 returns g c =

@@ -7,7 +7,7 @@ pub loop-coordinate-preserved : goal.loop-coordinate-preserved
 loop-coordinate-preserved g c =
     let u = c.loop-coordinate.coordinate in
     placed_more g.L.Level.means _ c.loop-coordinate.tables u _ _ c.lone.ensures
-    (omega (arith, lone_within u c.num-bytes-coordinate-end.result c.loop-coordinate-test.true)) c.loop-coordinate.invariant c.weight-at.ensures
+    (omega (arith, lone_within u c.num_bytes-coordinate-end.result c.loop-coordinate-test.true)) c.loop-coordinate.invariant c.weight_at.ensures
 
 pub returns : goal.returns
 returns g c =

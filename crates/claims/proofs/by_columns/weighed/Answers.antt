@@ -9,7 +9,7 @@ loop-v-init g c = search (rules, batched_none)
 pub loop-v-preserved : goal.loop-v-preserved
 loop-v-preserved g c =
     batched_more _ _ _ _ c.loop-v.v _ _ _ _ c.loop-v-test.true (omega (arith, c.requires)) c.index-columns-v.is c.index-weights-v.is
-    c.with-column-sum.ensures c.loop-v.invariant
+    c.with_column-sum.ensures c.loop-v.invariant
 
 pub returns : goal.returns
 returns g c =

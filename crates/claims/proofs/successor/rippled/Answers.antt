@@ -3,5 +3,5 @@ use Rattle.claims.proofs.successor.rippled.Goals as goal
 
 pub returns : goal.returns
 returns g c =
-    rippled_made g.L.Level.means g.L.Level.arithmetic c.args.eq-low.now _ _ _ _ _ c.requires.eq-low c.index-eq-low-top.is
-    c.rippled-columns.ensures c.mul.ensures
+    rippled_made g.L.Level.means g.L.Level.arithmetic c.args.eq_low.now _ _ _ _ _ c.requires.eq_low c.index-eq_low-top.is
+    c.rippled_columns.ensures c.mul.ensures

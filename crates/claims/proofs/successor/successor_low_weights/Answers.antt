@@ -10,16 +10,16 @@ pub loop-v-preserved : goal.loop-v-preserved
 loop-v-preserved g c =
     let m = g.L.Level.means in
     let v = c.loop-v.v in
-    let xs = c.args.eq-low.now in
+    let xs = c.args.eq_low.now in
     let size : length c.loop-v.out ≡ length c.args.out.now = c.loop-v.auto.out in
     let inside : v < length c.loop-v.out = omega arith in
     let here : v < length xs = omega arith in
-    let back : c.saturating-sub.result < length xs = omega (arith, c.saturating-sub.ensures) in
+    let back : c.saturating_sub.result < length xs = omega (arith, c.saturating_sub.ensures) in
     below_more _ _
-    (λ j h. let ne : j ≢ v = omega arith in lent_kept m c.loop-v.out v j c.sum-where.result ne ∙ c.loop-v.invariant j h)
-    (lent_written m c.loop-v.out v c.sum-where.result inside
+    (λ j h. let ne : j ≢ v = omega arith in lent_kept m c.loop-v.out v j c.sum_where.result ne ∙ c.loop-v.invariant j h)
+    (lent_written m c.loop-v.out v c.sum_where.result inside
     ∙ row_weighed c.args.q (lent m xs) v _ _ _ _ _
-    (lent_read m xs c.saturating-sub.result c.index-eq-low-saturating-sub.result back c.index-eq-low-saturating-sub.is ∙ ap (lent m xs) c.saturating-sub.ensures)
-    (lent_read m xs v c.index-eq-low-v.result here c.index-eq-low-v.is)
+    (lent_read m xs c.saturating_sub.result c.index-eq_low-saturating_sub.result back c.index-eq_low-saturating_sub.is ∙ ap (lent m xs) c.saturating_sub.ensures)
+    (lent_read m xs v c.index-eq_low-v.result here c.index-eq_low-v.is)
     (ap (λ m. bit_and v (m - 1)) (one_shl c.args.q 64 c.requires.0) ∙ and_mask v c.args.q) (ap (λ n. n - 1) (one_shl c.args.q 64 c.requires.0))
-    c.sum-where.ensures)
+    c.sum_where.ensures)

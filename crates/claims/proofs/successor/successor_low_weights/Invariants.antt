@@ -4,4 +4,4 @@ use Rattle.claims.specs.Rows.{row_weight}
 use Rattle.claims.proofs.successor.successor_low_weights.Given as goal
 
 abbrev pub invariant-loop-v : goal.invariant-loop-v
-invariant-loop-v g l = (v : ℕ) → v < l.v → lent g.L.Level.means l.out v ≡ row_weight (lent g.L.Level.means l.eq-low) l.q v
+invariant-loop-v g l = (v : ℕ) → v < l.v → lent g.L.Level.means l.out v ≡ row_weight (lent g.L.Level.means l.eq_low) l.q v

@@ -3,8 +3,8 @@ use Rattle.closing.proofs.elements.carry_element.Goals as goal
 
 pub returns : goal.returns
 returns g c =
-    let x = c.rows-apart.ensures in
-    let z = c.rows-apart-2.ensures in
+    let x = c.rows_apart.ensures in
+    let z = c.rows_apart-2.ensures in
     let made = c.equality_factors.ensures in record {
       rows = carry_made g.L.Level.means g.L.Level.arithmetic c.args.r _ _ _ _ _ _ c.requires.points x.before x.rows z.before z.rows _ _
           c.successor_element.ensures.rows made.rows;

@@ -7,7 +7,7 @@ loop-i-init g c = product_none _ _ c.args.point.now _ _ (omega arith) c.one-prod
 
 pub loop-i-preserved : goal.loop-i-preserved
 loop-i-preserved g c =
-    product_more _ _ c.args.point.now c.loop-i.i _ _ _ (omega arith) c.loop-i.auto.i c.index-point-i.is c.with-coordinate-product.ensures
+    product_more _ _ c.args.point.now c.loop-i.i _ _ _ (omega arith) c.loop-i.auto.i c.index-point-i.is c.with_coordinate-product.ensures
     c.loop-i.invariant
 
 pub returns : goal.returns

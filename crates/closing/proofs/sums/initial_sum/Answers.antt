@@ -7,13 +7,13 @@ pub returns-in-None : goal.returns-in-None
 returns-in-None g c =
     let m = g.L.Level.means in
     let b = steps m c.args.stepping in
-    let value = initial_alone g.L.Level.arithmetic _ b _ _ _ _ (ap (steps m) c.in-None.is) c.batch-rows-sum.ensures in
+    let value = initial_alone g.L.Level.arithmetic _ b _ _ _ _ (ap (steps m) c.in-None.is) c.batch_rows-sum.ensures in
     record { value = value; weighted = sent_weighted g.met.L.Level.ring _ b _ _ _ _ value }
 
 pub returns-in-Some : goal.returns-in-Some
 returns-in-Some g c =
     let m = g.L.Level.means in
     let b = steps m c.args.stepping in
-    let value = initial_stepped g.L.Level.arithmetic _ b _ _ _ _ _ _ (ap (steps m) c.in-Some.is) c.batch-rows-sum.ensures
-    c.with-successor-rows.ensures in
+    let value = initial_stepped g.L.Level.arithmetic _ b _ _ _ _ _ _ (ap (steps m) c.in-Some.is) c.batch_rows-sum.ensures
+    c.with_successor_rows.ensures in
     record { value = value; weighted = sent_weighted g.met.L.Level.ring _ b _ _ _ _ value }

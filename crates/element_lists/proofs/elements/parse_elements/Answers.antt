@@ -7,46 +7,46 @@ use Rattle.element_lists.specs.Elements.{ElementsOf}
 use Rattle.element_lists.proofs.Joining.{Front, front_none, front_more, front_all, nothing, right_length, room, bad_text}
 use Rattle.element_lists.proofs.elements.parse_elements.Goals as goal
 
-pub returns-then-is-empty : goal.returns-then-is-empty
-returns-then-is-empty g c =
+pub returns-then-is_empty : goal.returns-then-is_empty
+returns-then-is_empty g c =
     let text = c.args.text.now in
     subst (λ (xs : List (Element g.L.Level.log)). ElementsOf text xs) (sym (ap (map g.L.Level.means) c.new-elements.ensures.items))
-    (nothing text (nil_from_length text (eqb-true (length text) 0 (sym c.if-is-empty.ensures))))
+    (nothing text (nil_from_length text (eqb-true (length text) 0 (sym c.if-is_empty.ensures))))
 
 pub returns-then-text-digits : goal.returns-then-text-digits
 returns-then-text-digits g c =
-    let n = 2 * c.byte-count-digits.result in
+    let n = 2 * c.byte_count-digits.result in
     let some : 0 < length c.args.text.now = search rules in (
-      ap (λ m. 2 * m) c.byte-count-digits.ensures.value,
+      ap (λ m. 2 * m) c.byte_count-digits.ensures.value,
       λ ts a e. c.if-text-digits.true (right_length n c.args.text.now ts a some e),
     )
 
 pub loop-i-init : goal.loop-i-init
 loop-i-init g c =
-    subst (λ (xs : List (Element g.L.Level.log)). Front (2 * c.byte-count-digits.result) c.args.text.now xs 0) (sym (ap (map g.L.Level.means) c.new-elements.ensures.items))
-    (front_none (2 * c.byte-count-digits.result) c.args.text.now)
+    subst (λ (xs : List (Element g.L.Level.log)). Front (2 * c.byte_count-digits.result) c.args.text.now xs 0) (sym (ap (map g.L.Level.means) c.new-elements.ensures.items))
+    (front_none (2 * c.byte_count-digits.result) c.args.text.now)
 
-pub element-at-requires : goal.element-at-requires
-element-at-requires g c = (
-  ap (λ m. 2 * m) c.byte-count-digits.ensures.value,
-  room (2 * c.byte-count-digits.result) (length c.args.text.now) c.loop-i.i c.if-text-digits.false c.loop-i-test.true,
+pub element_at-requires : goal.element_at-requires
+element_at-requires g c = (
+  ap (λ m. 2 * m) c.byte_count-digits.ensures.value,
+  room (2 * c.byte_count-digits.result) (length c.args.text.now) c.loop-i.i c.if-text-digits.false c.loop-i-test.true,
 )
 
-pub returns-in-err-element-at : goal.returns-in-err-element-at
-returns-in-err-element-at g c =
+pub returns-in_err-element_at : goal.returns-in_err-element_at
+returns-in_err-element_at g c =
     let p = err_from_is_err_and c.from-residual.result c.from-residual.ensures.1 in
-    rw (p.1, p.2) (bad_text g.L.Level.log c.args.text.now c.loop-i.i _ c.in-err-element-at.ensures)
+    rw (p.1, p.2) (bad_text g.L.Level.log c.args.text.now c.loop-i.i _ c.in_err-element_at.ensures)
 
 pub loop-i-preserved : goal.loop-i-preserved
 loop-i-preserved g c =
-    let n = 2 * c.byte-count-digits.result in
+    let n = 2 * c.byte_count-digits.result in
     let text = c.args.text.now in
     let i = c.loop-i.i in
     let means = g.L.Level.means in
     let items = vec_items c.loop-i.elements in
-    let e = c.in-ok-element-at.ensures in
-    subst (λ (xs : List (Element g.L.Level.log)). Front n text xs (i + 1)) (sym (ap (map means) c.in-ok-push.ensures.items ∙ map_push means items c.in-ok-element-at.field-0))
-    (front_more n text (map means items) i (means c.in-ok-element-at.field-0) (room n (length text) i c.if-text-digits.false c.loop-i-test.true) e.1 e.0 c.loop-i.invariant)
+    let e = c.in_ok-element_at.ensures in
+    subst (λ (xs : List (Element g.L.Level.log)). Front n text xs (i + 1)) (sym (ap (map means) c.in_ok-push.ensures.items ∙ map_push means items c.in_ok-element_at.field-0))
+    (front_more n text (map means items) i (means c.in_ok-element_at.field-0) (room n (length text) i c.if-text-digits.false c.loop-i-test.true) e.1 e.0 c.loop-i.invariant)
 
 pub returns : goal.returns
-returns g c = front_all (2 * c.byte-count-digits.result) c.args.text.now (map g.L.Level.means (vec_items c.loop-i.elements)) c.loop-i.i c.if-text-digits.false (omega arith) c.loop-i.invariant
+returns g c = front_all (2 * c.byte_count-digits.result) c.args.text.now (map g.L.Level.means (vec_items c.loop-i.elements)) c.loop-i.i c.if-text-digits.false (omega arith) c.loop-i.invariant

@@ -6,13 +6,13 @@ use Rattle.element_text.proofs.element.parse_bytes.Goals as goal
 pub loop-j-init : goal.loop-j-init
 loop-j-init c = zeroes c.args.text.now
 
-pub returns-in-err-bytes : goal.returns-in-err-bytes
-returns-in-err-bytes c =
+pub returns-in_err-bytes : goal.returns-in_err-bytes
+returns-in_err-bytes c =
     let p = err_from_is_err_and c.from-residual.result c.from-residual.ensures.1 in
-    let e = c.in-err-bytes.ensures in
+    let e = c.in_err-bytes.ensures in
     rw (p.1, p.2) (omega (arith, e.0), broken c.args.text.now c.loop-j.bytes c.loop-j.j _ c.loop-j.invariant (omega arith) e.0 e.1 e.2 e.3)
 
 pub loop-j-preserved : goal.loop-j-preserved
 loop-j-preserved c =
-    let small : c.in-ok-bytes.field-0 < 256 = search rules in
-    parsed_more c.args.text.now c.loop-j.bytes c.loop-j.j _ (omega arith) (omega arith) small c.loop-j.invariant c.in-ok-bytes.ensures
+    let small : c.in_ok-bytes.field-0 < 256 = search rules in
+    parsed_more c.args.text.now c.loop-j.bytes c.loop-j.j _ (omega arith) (omega arith) small c.loop-j.invariant c.in_ok-bytes.ensures

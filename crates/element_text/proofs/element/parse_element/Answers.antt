@@ -5,5 +5,5 @@ use Rattle.element_text.proofs.element.parse_element.Goals as goal
 
 pub returns-in-Ok : goal.returns-in-Ok
 returns-in-Ok g c =
-    let n = c.byte-count-count.ensures.value in
-    writes c.args.text.now c.in-Ok.bytes _ (omega arith) (omega arith) (subst (λ (i : ℕ). Parsed i c.args.text.now c.in-Ok.bytes) n c.in-Ok.ensures) c.from-bytes.ensures
+    let n = c.byte_count-count.ensures.value in
+    writes c.args.text.now c.in-Ok.bytes _ (omega arith) (omega arith) (subst (λ (i : ℕ). Parsed i c.args.text.now c.in-Ok.bytes) n c.in-Ok.ensures) c.from_bytes.ensures

@@ -10,4 +10,4 @@ alone (c ∷ d ∷ text) h = absurd (omega arith)
 pub returns-in-len1 : goal.returns-in-len1
 returns-in-len1 c =
     let one : length c.args.text.now ≡ 1 = search rules in
-    (alone c.args.text.now one ∙ ap (λ x. x ∷ []) (sym c.from.ensures), ap level_letter c.from.ensures ∙ sym c.if-is-level-letter.ensures)
+    (alone c.args.text.now one ∙ ap (λ x. x ∷ []) (sym c.from.ensures), ap level_letter c.from.ensures ∙ sym c.if-is_level_letter.ensures)

@@ -1,7 +1,7 @@
 use Rattle.explain_input.proofs.words.input_words.Goals as goal
 
 pub returns-in-Line : goal.returns-in-Line
-returns-in-Line c = rw c.in-Line.is c.line-words.ensures
+returns-in-Line c = rw c.in-Line.is c.line_words.ensures
 
 pub returns-in-Twice : goal.returns-in-Twice
 returns-in-Twice c = rw (c.in-Twice.is, ← c.word-word.ensures) c.format.ensures.ok

@@ -9,24 +9,24 @@ use Rattle.explanation.proofs.explain.explain_input.Goals as goal
 pub returns-in-TowerByte : goal.returns-in-TowerByte
 unfolding tower
 returns-in-TowerByte c =
-    answered (string_bytes {Z = Global}) (parts_of c.args.input.now) TowerByte (sym c.in-Some.ensures ∙ ap Some c.in-TowerByte.is) c.explain-at.result c.explain-at.ensures
+    answered (string_bytes {Z = Global}) (parts_of c.args.input.now) TowerByte (sym c.in-Some.ensures ∙ ap Some c.in-TowerByte.is) c.explain_at.result c.explain_at.ensures
 
 pub returns-in-Tower16 : goal.returns-in-Tower16
 unfolding tower
 returns-in-Tower16 c =
-    answered (string_bytes {Z = Global}) (parts_of c.args.input.now) Tower16 (sym c.in-Some.ensures ∙ ap Some c.in-Tower16.is) c.explain-at-in-Tower16.result c.explain-at-in-Tower16.ensures
+    answered (string_bytes {Z = Global}) (parts_of c.args.input.now) Tower16 (sym c.in-Some.ensures ∙ ap Some c.in-Tower16.is) c.explain_at-in-Tower16.result c.explain_at-in-Tower16.ensures
 
 pub returns-in-Tower32 : goal.returns-in-Tower32
 unfolding tower
 returns-in-Tower32 c =
-    answered (string_bytes {Z = Global}) (parts_of c.args.input.now) Tower32 (sym c.in-Some.ensures ∙ ap Some c.in-Tower32.is) c.explain-at-in-Tower32.result c.explain-at-in-Tower32.ensures
+    answered (string_bytes {Z = Global}) (parts_of c.args.input.now) Tower32 (sym c.in-Some.ensures ∙ ap Some c.in-Tower32.is) c.explain_at-in-Tower32.result c.explain_at-in-Tower32.ensures
 
 pub returns-in-Tower64 : goal.returns-in-Tower64
 unfolding tower
 returns-in-Tower64 c =
-    answered (string_bytes {Z = Global}) (parts_of c.args.input.now) Tower64 (sym c.in-Some.ensures ∙ ap Some c.in-Tower64.is) c.explain-at-in-Tower64.result c.explain-at-in-Tower64.ensures
+    answered (string_bytes {Z = Global}) (parts_of c.args.input.now) Tower64 (sym c.in-Some.ensures ∙ ap Some c.in-Tower64.is) c.explain_at-in-Tower64.result c.explain_at-in-Tower64.ensures
 
 pub returns-in-PolynomialByte : goal.returns-in-PolynomialByte
 unfolding tower
 returns-in-PolynomialByte c =
-    answered (string_bytes {Z = Global}) (parts_of c.args.input.now) PolynomialByte (sym c.in-Some.ensures ∙ ap Some c.in-PolynomialByte.is) c.explain-at-in-PolynomialByte.result c.explain-at-in-PolynomialByte.ensures
+    answered (string_bytes {Z = Global}) (parts_of c.args.input.now) PolynomialByte (sym c.in-Some.ensures ∙ ap Some c.in-PolynomialByte.is) c.explain_at-in-PolynomialByte.result c.explain_at-in-PolynomialByte.ensures

@@ -10,14 +10,14 @@ use Rattle.problem.proofs.Optional.{some_mapped}
 use Rattle.report.proofs.Reporting.{batching_refused, batching_passed}
 use Rattle.explanation.proofs.report.batched_lines.Goals as goal
 
-pub returns-in-err-batched : goal.returns-in-err-batched
-returns-in-err-batched g c =
+pub returns-in_err-batched : goal.returns-in_err-batched
+returns-in_err-batched g c =
     let m = g.L.Level in
     let t = task_of m.means c.args.problem.now in
     let b = c.args.batching.now in
     let p = err_from_is_err_and c.from-residual.result c.from-residual.ensures.1 in
-    rw (p.1, p.2) (batching_refused m.arithmetic t _ c.as-slice-bits.ensures.value (string_bytes c.args.out.now) _ (ap (map m.means) c.as-slice-point.ensures.value)
-    (map m.means b) (length b) (sym (length-map b m.means)) _ (some_mapped m.means c.args.problem.now.challenge) _ c.in-err-batched.ensures.refusal)
+    rw (p.1, p.2) (batching_refused m.arithmetic t _ c.as_slice-bits.ensures.value (string_bytes c.args.out.now) _ (ap (map m.means) c.as_slice-point.ensures.value)
+    (map m.means b) (length b) (sym (length-map b m.means)) _ (some_mapped m.means c.args.problem.now.challenge) _ c.in_err-batched.ensures.refusal)
 
 pub returns : goal.returns
 returns g c =
@@ -26,11 +26,11 @@ returns g c =
     let t = task_of m.means problem in
     let b = c.args.batching.now in
     let points : Vec g.row.L.Denot Global → Point m.log = λ v. map m.means (vec_items v) in
-    let s = batching_of m.means c.in-ok-batched.batched in
-    let w = string_bytes c.batch-lines.new.out in
-    subst (Reported c.closing-lines.result (string_bytes c.closing-lines.new.out))
-    (ap (λ l. w ++ closing_text m.arithmetic s (map points l)) c.as-slice.ensures.value
-    ∙ batching_passed m.arithmetic t _ c.as-slice-bits.ensures.value (string_bytes c.args.out.now) _ (ap (map m.means) c.as-slice-point.ensures.value)
+    let s = batching_of m.means c.in_ok-batched.batched in
+    let w = string_bytes c.batch_lines.new.out in
+    subst (Reported c.closing_lines.result (string_bytes c.closing_lines.new.out))
+    (ap (λ l. w ++ closing_text m.arithmetic s (map points l)) c.as_slice.ensures.value
+    ∙ batching_passed m.arithmetic t _ c.as_slice-bits.ensures.value (string_bytes c.args.out.now) _ (ap (map m.means) c.as_slice-point.ensures.value)
     (map m.means b) (length b) (sym (length-map b m.means)) _ (some_mapped m.means problem.challenge) w s
-    c.in-ok-batched.ensures.refusal c.in-ok-batched.ensures.batched c.in-ok-batch-lines.ensures)
-    c.closing-lines.ensures
+    c.in_ok-batched.ensures.refusal c.in_ok-batched.ensures.batched c.in_ok-batch_lines.ensures)
+    c.closing_lines.ensures

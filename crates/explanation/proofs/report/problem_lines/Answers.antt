@@ -7,30 +7,30 @@ use Rattle.report.proofs.Packed.{few, variables_are, cells_few}
 use Rattle.report.proofs.Reporting.{packing_refused, packing_passed}
 use Rattle.explanation.proofs.report.problem_lines.Goals as goal
 
-pub returns-in-err-variables : goal.returns-in-err-variables
-returns-in-err-variables g c =
+pub returns-in_err-variables : goal.returns-in_err-variables
+returns-in_err-variables g c =
     let m = g.L.Level in
     let t = task_of m.means c.args.problem.now in
     let p = err_from_is_err_and c.from-residual.result c.from-residual.ensures.1 in
-    rw (p.1, p.2) (packing_refused m.arithmetic t _ c.as-slice-bits.ensures.value (string_bytes c.args.out.now) _ c.in-err-variables.ensures.refusal)
+    rw (p.1, p.2) (packing_refused m.arithmetic t _ c.as_slice-bits.ensures.value (string_bytes c.args.out.now) _ c.in_err-variables.ensures.refusal)
 
 pub overflow-shl-variables : goal.overflow-shl-variables
 overflow-shl-variables g c =
-    let small : length c.as-slice-bits.result.now ≤ 2 ^ 24 = omega (arith, c.requires, ap length c.as-slice-bits.ensures.value) in
-    omega (arith, few _ _ _ c.in-ok-variables.ensures.packs small)
+    let small : length c.as_slice-bits.result.now ≤ 2 ^ 24 = omega (arith, c.requires, ap length c.as_slice-bits.ensures.value) in
+    omega (arith, few _ _ _ c.in_ok-variables.ensures.packs small)
 
-pub packed-lines-requires : goal.packed-lines-requires
-packed-lines-requires g c =
-    let small : length c.as-slice-bits.result.now ≤ 2 ^ 24 = omega (arith, c.requires, ap length c.as-slice-bits.ensures.value) in
-    let p = c.in-ok-variables.ensures.packs in
-    let v = c.in-ok-variables.variables in
+pub packed_lines-requires : goal.packed_lines-requires
+packed_lines-requires g c =
+    let small : length c.as_slice-bits.result.now ≤ 2 ^ 24 = omega (arith, c.requires, ap length c.as_slice-bits.ensures.value) in
+    let p = c.in_ok-variables.ensures.packs in
+    let v = c.in_ok-variables.variables in
     (p.narrow, subst (λ (n : ℕ). n * 2 ^ g.L.Level.log ≤ 2 ^ 64) (sym (one_shl v 64 (omega (arith, few _ _ _ p small)))) (cells_few _ _ _ p small))
 
-pub opened-lines-requires : goal.opened-lines-requires
-opened-lines-requires g c =
-    let bits = c.as-slice-bits.ensures.value in
-    let small : length c.as-slice-bits.result.now ≤ 2 ^ 24 = omega (arith, c.requires, ap length bits) in
-    let p = c.in-ok-variables.ensures.packs in
+pub opened_lines-requires : goal.opened_lines-requires
+opened_lines-requires g c =
+    let bits = c.as_slice-bits.ensures.value in
+    let small : length c.as_slice-bits.result.now ≤ 2 ^ 24 = omega (arith, c.requires, ap length bits) in
+    let p = c.in_ok-variables.ensures.packs in
     record {
       narrow = p.narrow;
       few = few _ _ _ p small;
@@ -41,11 +41,11 @@ pub returns : goal.returns
 returns g c =
     let m = g.L.Level in
     let t = task_of m.means c.args.problem.now in
-    let bits = c.as-slice-bits.ensures.value in
-    let small : length c.as-slice-bits.result.now ≤ 2 ^ 24 = omega (arith, c.requires, ap length bits) in
-    let p = c.in-ok-variables.ensures.packs in
-    let v = c.in-ok-variables.variables in
-    subst (Reported c.opened-lines.result (string_bytes c.opened-lines.new.out))
-    (packing_passed m.arithmetic t _ bits (string_bytes c.args.out.now) (string_bytes c.packed-lines.new.out) v _ c.in-ok-variables.ensures.refusal
-    (variables_are _ _ _ p small) (one_shl v 64 (omega (arith, few _ _ _ p small))) c.in-ok-packed-lines.ensures)
-    c.opened-lines.ensures
+    let bits = c.as_slice-bits.ensures.value in
+    let small : length c.as_slice-bits.result.now ≤ 2 ^ 24 = omega (arith, c.requires, ap length bits) in
+    let p = c.in_ok-variables.ensures.packs in
+    let v = c.in_ok-variables.variables in
+    subst (Reported c.opened_lines.result (string_bytes c.opened_lines.new.out))
+    (packing_passed m.arithmetic t _ bits (string_bytes c.args.out.now) (string_bytes c.packed_lines.new.out) v _ c.in_ok-variables.ensures.refusal
+    (variables_are _ _ _ p small) (one_shl v 64 (omega (arith, few _ _ _ p small))) c.in_ok-packed_lines.ensures)
+    c.opened_lines.ensures

@@ -14,9 +14,9 @@ returns g c =
     let b = c.args.batched.now in
     let f : ℕ → List ℕ = weight_line m.arithmetic (batching_of m.means b) in
     let n = length b.slot.now in
-    let written = string_bytes c.element-line.new.out in
+    let written = string_bytes c.element_line.new.out in
     let initial = line (codes "initial") (element_text (m.means b.initial)) in
     let same : n ≡ length (map m.means b.slot.now) = sym (length-map b.slot.now m.means) in
-    joined (string_bytes c.args.out.now) written (string_bytes c.weight-lines.new.out) initial (lines_below (2 ^ length (map m.means b.slot.now)) f)
-    c.in-ok-element-line.ensures
-    (subst (λ (i : ℕ). string_bytes c.weight-lines.new.out ≡ written ++ lines_below (2 ^ i) f) same c.in-ok-weight-lines.ensures)
+    joined (string_bytes c.args.out.now) written (string_bytes c.weight_lines.new.out) initial (lines_below (2 ^ length (map m.means b.slot.now)) f)
+    c.in_ok-element_line.ensures
+    (subst (λ (i : ℕ). string_bytes c.weight_lines.new.out ≡ written ++ lines_below (2 ^ i) f) same c.in_ok-weight_lines.ensures)

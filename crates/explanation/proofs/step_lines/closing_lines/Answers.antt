@@ -23,39 +23,39 @@ loop-z-preserved g c =
     let vs = c.args.closings.now in
     let i = c.loop-z.z-index in
     let v = c.z-item.result in
-    let n = length c.as-slice.result.now in
+    let n = length c.as_slice.result.now in
     let points : Vec g.row.L.Denot Global → Point m.log = λ v. map m.means (vec_items v) in
     let zs : List (Point m.log) = map points vs in
     let total = string_bytes c.args.out.now ++ closing_text m.arithmetic b zs in
     let written = string_bytes c.loop-z.out in
     let read : points v ≡ get_or zs i [] = means_at points vs i v [] c.loop-z-test.true c.z-item.is in
-    let len : n ≡ length (points v) = ap length c.as-slice.ensures.value ∙ sym (length-map (vec_items v) m.means) in
+    let len : n ≡ length (points v) = ap length c.as_slice.ensures.value ∙ sym (length-map (vec_items v) m.means) in
     let passed : None ≡ closing (length b.slot) n =
-    subst (λ (l : ℕ). None ≡ closing l n) (sym (length-map batched.slot.now m.means)) c.in-ok-close.ensures.refusal in
-    let x = m.means c.in-ok-close.field-0 in
+    subst (λ (l : ℕ). None ≡ closing l n) (sym (length-map batched.slot.now m.means)) c.in_ok-close.ensures.refusal in
+    let x = m.means c.in_ok-close.field-0 in
     let value : x ≡ closing_value m.arithmetic (equality m.arithmetic b.batching) b.slot b.stepping (points v) =
     subst (λ (l : List g.row.L.Denot). x ≡ closing_value m.arithmetic (equality m.arithmetic b.batching) b.slot b.stepping (map m.means l))
-    c.as-slice.ensures.value c.in-ok-close.ensures.value in
+    c.as_slice.ensures.value c.in_ok-close.ensures.value in
     closing_more m.arithmetic b zs total written i c.loop-z.invariant (points v) n (omega (arith, length-map vs points, c.loop-z-test.true)) read len
-    x (string_bytes c.element-line.new.out) passed value c.in-ok-element-line.ensures
+    x (string_bytes c.element_line.new.out) passed value c.in_ok-element_line.ensures
 
-pub returns-in-err-close : goal.returns-in-err-close
-returns-in-err-close g c =
+pub returns-in_err-close : goal.returns-in_err-close
+returns-in_err-close g c =
     let m = g.L.Level in
     let batched = c.args.batched.now in
     let b = batching_of m.means batched in
     let vs = c.args.closings.now in
     let i = c.loop-z.z-index in
     let v = c.z-item.result in
-    let n = length c.as-slice.result.now in
+    let n = length c.as_slice.result.now in
     let points : Vec g.row.L.Denot Global → Point m.log = λ v. map m.means (vec_items v) in
     let zs : List (Point m.log) = map points vs in
     let total = string_bytes c.args.out.now ++ closing_text m.arithmetic b zs in
     let read : points v ≡ get_or zs i [] = means_at points vs i v [] c.loop-z-test.true c.z-item.is in
-    let len : n ≡ length (points v) = ap length c.as-slice.ensures.value ∙ sym (length-map (vec_items v) m.means) in
-    let r = ring_switch_refusal c.in-err-close.field-0.0 in
+    let len : n ≡ length (points v) = ap length c.as_slice.ensures.value ∙ sym (length-map (vec_items v) m.means) in
+    let r = ring_switch_refusal c.in_err-close.field-0.0 in
     let refusal : Some r ≡ closing (length b.slot) n =
-    subst (λ (l : ℕ). Some r ≡ closing l n) (sym (length-map batched.slot.now m.means)) c.in-err-close.ensures.refusal in
+    subst (λ (l : ℕ). Some r ≡ closing l n) (sym (length-map batched.slot.now m.means)) c.in_err-close.ensures.refusal in
     let p = err_from_is_err_and c.from-residual.result c.from-residual.ensures.1 in
     rw (p.1, p.2) (closing_refused m.arithmetic b zs total (string_bytes c.loop-z.out) i c.loop-z.invariant (points v) n
     (omega (arith, length-map vs points, c.loop-z-test.true)) read len r refusal)

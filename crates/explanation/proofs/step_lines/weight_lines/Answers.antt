@@ -20,8 +20,8 @@ pub loop-i-preserved : goal.loop-i-preserved
 loop-i-preserved g c =
     let m = g.L.Level in
     below_more (weight_line m.arithmetic (batching_of m.means c.args.batched.now)) (string_bytes c.args.out.now) (string_bytes c.loop-i.out)
-    (string_bytes c.element-line.new.out) (line (codes "weight") (element_text (m.means c.weight-x.result))) c.loop-i.i c.loop-i.invariant
-    c.in-ok-element-line.ensures (ap (λ x. line (codes "weight") (element_text x)) c.weight-x.ensures)
+    (string_bytes c.element_line.new.out) (line (codes "weight") (element_text (m.means c.weight-x.result))) c.loop-i.i c.loop-i.invariant
+    c.in_ok-element_line.ensures (ap (λ x. line (codes "weight") (element_text x)) c.weight-x.ensures)
 
 pub returns : goal.returns
 returns g c =

@@ -11,15 +11,15 @@ use Rattle.problem.proofs.Optional.{some_mapped}
 use Rattle.report.proofs.Batches.{rows_named, challenged, rows_in_slot, rows_few, batches}
 use Rattle.explanation.proofs.steps.batch.Goals as goal
 
-pub slot-sum-initial-requires : goal.slot-sum-initial-requires
-slot-sum-initial-requires g c =
+pub slot_sum-initial-requires : goal.slot_sum-initial-requires
+slot_sum-initial-requires g c =
     let m = g.L.Level in
     let view = c.args.view in
     let α = option_map m.means c.args.challenge in
     let few : named view ≤ 63 = omega (arith, rows_named (told m.log) (length c.args.point.now) view (sym c.requires.opened), c.requires.short) in
     record {
       narrow = c.requires.narrow;
-      rows = rows_few view α _ 63 (c.stepping-of-stepping.ensures ∙ ap (λ (r : Option ℕ). stepped r α) c.kept-row-variables-rows.ensures) few;
+      rows = rows_few view α _ 63 (c.stepping_of-stepping.ensures ∙ ap (λ (r : Option ℕ). stepped r α) c.kept_row_variables-rows.ensures) few;
       short = c.slot_start.ensures.short;
       cells = c.slot_start.ensures.cells;
     }
@@ -34,17 +34,17 @@ returns g c =
     let p = map m.means point in
     let b = c.args.batching.now in
     let slot = c.slot_start.result.1.now in
-    let s = steps m.means c.stepping-of-stepping.result in
+    let s = steps m.means c.stepping_of-stepping.result in
     let rows : named view ≤ length p = omega (arith, rows_named (told m.log) (length point) view (sym c.requires.opened), length-map point m.means) in
-    let sent : c.is-some.result ≡ is_some (kept m.log view) = c.is-some.ensures ∙ ap is_some c.kept-row-variables-rows.ensures in
+    let sent : c.is_some.result ≡ is_some (kept m.log view) = c.is_some.ensures ∙ ap is_some c.kept_row_variables-rows.ensures in
     let refusal : None ≡ batch_refusal m.log view c.args.challenge (length b) =
-    c.in-ok-check-batching.ensures ∙ ap₂ (λ (s t : Bool). batching (told m.log) s t (length b)) sent c.is-some-2.ensures in
-    let e : s ≡ stepped (kept m.log view) α = c.stepping-of-stepping.ensures ∙ ap (λ (r : Option ℕ). stepped r α) c.kept-row-variables-rows.ensures in
+    c.in_ok-check_batching.ensures ∙ ap₂ (λ (s t : Bool). batching (told m.log) s t (length b)) sent c.is_some-2.ensures in
+    let e : s ≡ stepped (kept m.log view) α = c.stepping_of-stepping.ensures ∙ ap (λ (r : Option ℕ). stepped r α) c.kept_row_variables-rows.ensures in
     let both : is_some (kept m.log view) ≡ is_some α = challenged m.log view c.args.challenge (length b) refusal ∙ some_mapped m.means c.args.challenge in
     record {
       refusal = refusal;
-      batched = batches laws p (cell c.args.bits.now) view (map m.means b) α (map m.means slot) c.slot_start.result.0 s (m.means c.slot-sum-initial.result)
-          c.slot_start.ensures.coordinates c.slot_start.ensures.start e both rows c.slot-sum-initial.ensures.initial;
+      batched = batches laws p (cell c.args.bits.now) view (map m.means b) α (map m.means slot) c.slot_start.result.0 s (m.means c.slot_sum-initial.result)
+          c.slot_start.ensures.coordinates c.slot_start.ensures.start e both rows c.slot_sum-initial.ensures.initial;
       rows = rows_in_slot laws p view α s (length slot) e (sym (length-map slot m.means) ∙ ap length c.slot_start.ensures.coordinates) rows;
       short = c.slot_start.ensures.short;
     }

@@ -5,4 +5,4 @@ pub loop-b-init : goal.loop-b-init
 loop-b-init g c s p f = all_none _ _
 
 pub loop-b-preserved : goal.loop-b-preserved
-loop-b-preserved g c s p f = all_more _ _ c.loop-b.b _ _ (c.add-entering.ensures s p f) (c.loop-b.invariant s p f)
+loop-b-preserved g c s p f = all_more _ _ c.loop-b.b _ _ (c.add_entering.ensures s p f) (c.loop-b.invariant s p f)

@@ -5,7 +5,7 @@ pub returns : goal.returns
 returns g c = record {
   rows =
       λ s p f. carry_made g.L.Level.means g.met.L.Level.ring _ _ s p f c.args.kept _ _ _ _ _ _ c.clear.ensures c.shifted.ensures c.new.ensures
-      c.add-blocks.ensures (c.add-all-entering.ensures s p f);
+      c.add_blocks.ensures (c.add_all_entering.ensures s p f);
   shifted = c.shifted.ensures;
   scratch = c.clear-2.ensures;
 }

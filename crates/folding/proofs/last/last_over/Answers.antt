@@ -7,15 +7,15 @@ use Rattle.folding.proofs.Folds.{all_none, all_more, column_within, whole_column
 use Rattle.folding.proofs.Slots.{last_made}
 use Rattle.folding.proofs.last.last_over.Goals as goal
 
-pub last-of-column-requires : goal.last-of-column-requires
-last-of-column-requires g c =
+pub last_of_column-requires : goal.last_of_column-requires
+last_of_column-requires g c =
     let column = 2 ^ c.args.kept in
     let within : c.loop-c.c * column + (column - 1) < length c.args.values.now =
     column_within c.loop-c.c column (length c.args.values.now) (pow_pos c.args.kept) c.loop-c-test.true in
     search rules
 
-pub add-entry-requires : goal.add-entry-requires
-add-entry-requires g c =
+pub add_entry-requires : goal.add_entry-requires
+add_entry-requires g c =
     let column = 2 ^ c.args.kept in
     let within : c.loop-c.c * column + (column - 1) < length c.args.values.now =
     column_within c.loop-c.c column (length c.args.values.now) (pow_pos c.args.kept) c.loop-c-test.true in
@@ -28,8 +28,8 @@ pub loop-c-preserved : goal.loop-c-preserved
 loop-c-preserved g c s p f =
     let m = g.L.Level in
     all_more _ _ c.loop-c.c _ _
-    (c.add-entry.ensures s p f
-    ∙ ap (λ w. add (lent m.means c.loop-c.rows) (exterior (entry m.arithmetic s p w) (lent m.means c.args.values.now w))) c.last-of-column.ensures)
+    (c.add_entry.ensures s p f
+    ∙ ap (λ w. add (lent m.means c.loop-c.rows) (exterior (entry m.arithmetic s p w) (lent m.means c.args.values.now w))) c.last_of_column.ensures)
     (c.loop-c.invariant s p f)
 
 pub returns : goal.returns

@@ -4,8 +4,8 @@ use Rattle.folding.proofs.opening.carry.Goals as goal
 pub returns : goal.returns
 returns g c = record {
   rows =
-      λ p q bits opens within keeps. carry_opened g.L.Level.means g.met.L.Level.ring p bits _ _ _ _ _ c.slot-values-values.ensures.elements q _ opens within keeps _
-      (c.carry-over.ensures.rows _ _ opens.factors);
+      λ p q bits opens within keeps. carry_opened g.L.Level.means g.met.L.Level.ring p bits _ _ _ _ _ c.slot_values-values.ensures.elements q _ opens within keeps _
+      (c.carry_over.ensures.rows _ _ opens.factors);
   shifted = c.clear.ensures;
-  scratch = c.carry-over.ensures.scratch;
+  scratch = c.carry_over.ensures.scratch;
 }

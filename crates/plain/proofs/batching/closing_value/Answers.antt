@@ -12,7 +12,7 @@ pub loop-i-init : goal.loop-i-init
 loop-i-init g c = sum_begins _ _ c.zero-sum.ensures
 
 pub loop-i-preserved : goal.loop-i-preserved
-loop-i-preserved g c = sum_more _ c.loop-i.i _ _ _ c.loop-i.invariant c.closing-term.ensures c.add-sum.ensures
+loop-i-preserved g c = sum_more _ c.loop-i.i _ _ _ c.loop-i.invariant c.closing_term.ensures c.add-sum.ensures
 
 pub returns : goal.returns
 returns g c =

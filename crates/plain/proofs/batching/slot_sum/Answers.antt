@@ -15,13 +15,13 @@ use Rattle.plain.proofs.batching.slot_sum.Goals as goal
 pub loop-i-init : goal.loop-i-init
 loop-i-init g c = sum_begins _ _ c.zero-sum.ensures
 
-pub overflow-add-slot-start : goal.overflow-add-slot-start
-overflow-add-slot-start g c =
+pub overflow-add-slot_start : goal.overflow-add-slot_start
+overflow-add-slot_start g c =
     let l = length c.args.slot.now in
     omega (arith, count_fits g.L.Level.log (c.args.slot_start + 2 ^ l) c.requires.cells, one_shl l 64 c.requires.short)
 
-pub slot-term-requires : goal.slot-term-requires
-slot-term-requires g c =
+pub slot_term-requires : goal.slot_term-requires
+slot_term-requires g c =
     let l = length c.args.slot.now in
     record {
       narrow = c.requires.narrow;
@@ -30,7 +30,7 @@ slot-term-requires g c =
     }
 
 pub loop-i-preserved : goal.loop-i-preserved
-loop-i-preserved g c = sum_more _ c.loop-i.i _ _ _ c.loop-i.invariant c.slot-term.ensures c.add-sum.ensures
+loop-i-preserved g c = sum_more _ c.loop-i.i _ _ _ c.loop-i.invariant c.slot_term.ensures c.add-sum.ensures
 
 pub returns : goal.returns
 returns g c =

@@ -10,9 +10,9 @@ loop-v-init g c = binary_begins _
 pub loop-v-preserved : goal.loop-v-preserved
 loop-v-preserved g c =
     let few = pow_mono c.requires.0 in
-    binary_more _ c.loop-v.v _ _ _ (omega (arith, c.width-d.ensures)) (cell_binary _ _) c.loop-v.invariant c.cell.ensures c.with-coordinate-coordinates.ensures
+    binary_more _ c.loop-v.v _ _ _ (omega (arith, c.width-d.ensures)) (cell_binary _ _) c.loop-v.invariant c.cell.ensures c.with_coordinate-coordinates.ensures
 
 pub returns : goal.returns
 returns g c =
     packed_ends g.L.Level.log (cell c.args.bits.now) c.args.w _ _ _ _ _ c.requires.0 c.width-d.ensures c.loop-v.auto.v-end c.loop-v-test.false
-    c.loop-v.invariant (to_le_bytes _ _ c.to-le-bytes.ensures) c.from-bytes.ensures
+    c.loop-v.invariant (to_le_bytes _ _ c.to_le_bytes.ensures) c.from_bytes.ensures

@@ -8,4 +8,4 @@ pub returns : goal.returns
 unfolding sixteen
 returns g c =
     let x = g.L.Level.means c.args.x in
-    from_le_bytes _ _ (ap length c.to-bytes.ensures ∙ length_digits 16 _) c.from-le-bytes.ensures ∙ ap le_number c.to-bytes.ensures ∙ le_sixteen x c.requires
+    from_le_bytes _ _ (ap length c.to_bytes.ensures ∙ length_digits 16 _) c.from_le_bytes.ensures ∙ ap le_number c.to_bytes.ensures ∙ le_sixteen x c.requires

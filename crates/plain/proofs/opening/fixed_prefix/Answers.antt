@@ -6,13 +6,13 @@ use Rattle.ring_switch.proofs.SlotPrefix.{high_length, prefix_selected}
 use Rattle.plain.proofs.Prefixes.{limit_within, prefix_is_run}
 use Rattle.plain.proofs.opening.fixed_prefix.Goals as goal
 
-pub slice-bounds-leading-run-end : goal.slice-bounds-leading-run-end
-slice-bounds-leading-run-end g c =
+pub slice-bounds-leading_run-end : goal.slice-bounds-leading_run-end
+slice-bounds-leading_run-end g c =
     let xs = c.args.point.now in
     omega (arith, length-take c.prefix_limit.result xs, limit_within g.L.Level.log (length xs) c.args.view, c.prefix_limit.ensures)
 
-pub leading-run-requires : goal.leading-run-requires
-leading-run-requires g c = omega (arith, length-take c.prefix_limit.result c.args.point.now, c.requires.1)
+pub leading_run-requires : goal.leading_run-requires
+leading_run-requires g c = omega (arith, length-take c.prefix_limit.result c.args.point.now, c.requires.1)
 
 pub returns : goal.returns
 returns g c =
@@ -22,8 +22,8 @@ returns g c =
     let e : run m.arithmetic (map m.means (take l xs)) ≡ prefix m.arithmetic (map m.means xs) c.args.view =
     sym (prefix_is_run m.arithmetic (map m.means xs) c.args.view l (length xs) (length-map xs m.means) c.prefix_limit.ensures
     ∙ ap (run m.arithmetic) (take-map m.means l xs)) in
-    let count = c.leading-run.ensures.count ∙ ap (λ r. r.count) e in
-    let address = c.leading-run.ensures.address ∙ ap (λ r. r.address) e in
+    let count = c.leading_run.ensures.count ∙ ap (λ r. r.count) e in
+    let address = c.leading_run.ensures.address ∙ ap (λ r. r.address) e in
     let s = prefix_selected g.met.L.Level.ring (map m.means xs) c.args.view in
     record {
       count = count;

@@ -5,7 +5,7 @@ use Rattle.plain.proofs.opening.kept_row_variables.Goals as goal
 pub returns-in-Some : goal.returns-in-Some
 unfolding kept
 returns-in-Some g c =
-    let k : c.from.result ≡ g.L.Level.log = omega (arith, c.log-width.ensures, c.requires) in
+    let k : c.from.result ≡ g.L.Level.log = omega (arith, c.log_width.ensures, c.requires) in
     rw (c.in-Some.is, ← k) c.past.ensures
 
 pub returns-in-None : goal.returns-in-None

@@ -20,7 +20,7 @@ loop-i-preserved g c =
     let i = c.loop-i.i in
     let inv = c.loop-i.invariant in
     let pos : 0 < i = omega arith in
-    let f = c.coordinate-factor.ensures in (
+    let f = c.coordinate_factor.ensures in (
       entry_more m.arithmetic (map m.means xs) (length xs) i _ c.loop-i.rest _ _ _ _ (length-map xs m.means) pos c.loop-i.auto.i
           (means_at m.means xs (i - 1) _ _ (omega arith) c.index-point-i.is) f.at_one f.at_zero inv.0 inv.1 c.mul-product.ensures,
       rest_more (length xs) i _ _ pos c.loop-i.auto.i inv.1,

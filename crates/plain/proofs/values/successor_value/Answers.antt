@@ -11,7 +11,7 @@ pub loop-c-init : goal.loop-c-init
 loop-c-init g c = sum_begins _ _ c.zero-sum.ensures
 
 pub loop-c-preserved : goal.loop-c-preserved
-loop-c-preserved g c = sum_more _ c.loop-c.c _ _ _ c.loop-c.invariant c.successor-term.ensures c.add-sum.ensures
+loop-c-preserved g c = sum_more _ c.loop-c.c _ _ _ c.loop-c.invariant c.successor_term.ensures c.add-sum.ensures
 
 pub returns : goal.returns
 unfolding one_row_on

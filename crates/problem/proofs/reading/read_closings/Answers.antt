@@ -18,22 +18,22 @@ loop-text-preserved g c =
     let f : Vec g.row.L.Denot Global → Point g.L.Level.log = λ v. map g.L.Level.means (vec_items v) in
     let texts = c.args.texts.now in
     let i = c.loop-text.text-index in
-    each_more f (map (λ x. x.now) texts) (vec_items c.loop-text.closings) i (vec_items c.push.new.self) c.in-ok-read-elements.field-0 _
+    each_more f (map (λ x. x.now) texts) (vec_items c.loop-text.closings) i (vec_items c.push.new.self) c.in_ok-read_elements.field-0 _
     (omega (arith, length-map texts (λ x. x.now), c.loop-text-test.true)) (sym (get_or-map (λ x. x.now) texts i _ [] c.loop-text-test.true))
-    c.in-ok-push.ensures.items c.in-ok-read-elements.ensures c.loop-text.invariant
+    c.in_ok-push.ensures.items c.in_ok-read_elements.ensures c.loop-text.invariant
 
-pub returns-in-err-read-elements : goal.returns-in-err-read-elements
-returns-in-err-read-elements g c =
+pub returns-in_err-read_elements : goal.returns-in_err-read_elements
+returns-in_err-read_elements g c =
     let texts = c.args.texts.now in
     let i = c.loop-text.text-index in
     let p = err_from_is_err_and c.from-residual.result c.from-residual.ensures.1 in
     rw (p.1, p.2) (bad_place g.L.Level.log Closing (map (λ x. x.now) texts) _ _ i (omega (arith, length-map texts (λ x. x.now), c.loop-text-test.true))
-    (get_or-map (λ x. x.now) texts i _ [] c.loop-text-test.true) c.in-err-read-elements.ensures)
+    (get_or-map (λ x. x.now) texts i _ [] c.loop-text-test.true) c.in_err-read_elements.ensures)
 
-pub returns-in-err-push : goal.returns-in-err-push
-returns-in-err-push g c =
+pub returns-in_err-push : goal.returns-in_err-push
+returns-in_err-push g c =
     let i = c.loop-text.text-index in
-    let p = err_from_is_err_and c.from-residual-in-err-push.result c.from-residual-in-err-push.ensures.1 in
+    let p = err_from_is_err_and c.from-residual-in_err-push.result c.from-residual-in_err-push.ensures.1 in
     rw (p.1, p.2) (i, omega (arith, length-map c.args.texts.now (λ x. x.now), c.loop-text-test.true), tt)
 
 pub returns : goal.returns

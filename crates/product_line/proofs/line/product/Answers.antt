@@ -5,25 +5,25 @@ use Rattle.product_line.specs.Lines.{Operands}
 use Rattle.product_line.proofs.Shapes.{operands_shaped, shaped_operands}
 use Rattle.product_line.proofs.line.product.Goals as goal
 
-pub returns-then-not-has-shape : goal.returns-then-not-has-shape
-returns-then-not-has-shape g c = (
-  ap (λ n. 2 * n) c.byte-count-digits.ensures.value,
-  λ left right o. both_ways _ (sym c.if-not-has-shape.ensures) (operands_shaped _ _ left right o),
+pub returns-then-not-has_shape : goal.returns-then-not-has_shape
+returns-then-not-has_shape g c = (
+  ap (λ n. 2 * n) c.byte_count-digits.ensures.value,
+  λ left right o. both_ways _ (sym c.if-not-has_shape.ensures) (operands_shaped _ _ left right o),
 )
 
 pub returns : goal.returns
 returns g c =
-    let n = ap (λ (m : ℕ). 2 * m) c.byte-count-digits.ensures.value in
-    let o = shaped_operands (2 * c.byte-count-digits.result) c.args.rest.now (sym c.if-not-has-shape.ensures) in
-    let left = take (2 * c.byte-count-digits.result) (drop 1 c.args.rest.now) in
-    let right = take (2 * c.byte-count-digits.result) (drop (2 * c.byte-count-digits.result + 2) c.args.rest.now) in
+    let n = ap (λ (m : ℕ). 2 * m) c.byte_count-digits.ensures.value in
+    let o = shaped_operands (2 * c.byte_count-digits.result) c.args.rest.now (sym c.if-not-has_shape.ensures) in
+    let left = take (2 * c.byte_count-digits.result) (drop 1 c.args.rest.now) in
+    let right = take (2 * c.byte_count-digits.result) (drop (2 * c.byte_count-digits.result + 2) c.args.rest.now) in
     record {
       left = left;
       right = right;
       x = _;
       y = _;
       operands = subst (λ (m : ℕ). Operands m c.args.rest.now left right) n o;
-      left_writes = c.in-ok-x.ensures;
-      right_writes = c.in-ok-y.ensures;
-      answer_is = c.in-ok-element-text.ensures ∙ ap element_text c.mul.ensures;
+      left_writes = c.in_ok-x.ensures;
+      right_writes = c.in_ok-y.ensures;
+      answer_is = c.in_ok-element_text.ensures ∙ ap element_text c.mul.ensures;
     }

@@ -7,9 +7,9 @@ loop-j-init g c = adding_begins _ _ _
 
 pub loop-j-preserved : goal.loop-j-preserved
 loop-j-preserved g c =
-    adding_more c.to-bytes-values.result _ g.L.Level.means c.loop-j.j _ c.loop-j.buckets c.place-at.result _ _ (omega arith) c.place-at.ensures
+    adding_more c.to_bytes-values.result _ g.L.Level.means c.loop-j.j _ c.loop-j.buckets c.place-at.result _ _ (omega arith) c.place-at.ensures
     (omega arith) c.index-buckets-at.is c.add.ensures c.loop-j.invariant
 
 pub returns : goal.returns
 returns g c =
-    adding_ends (g.L.Level.means c.args.a) _ _ c.loop-j.j _ _ _ c.requires.narrow c.to-bytes-values.ensures c.byte-count-j-end.ensures c.loop-j-test.false c.loop-j.invariant
+    adding_ends (g.L.Level.means c.args.a) _ _ c.loop-j.j _ _ _ c.requires.narrow c.to_bytes-values.ensures c.byte_count-j-end.ensures c.loop-j-test.false c.loop-j.invariant

@@ -11,9 +11,9 @@ pub loop-w-preserved : goal.loop-w-preserved
 loop-w-preserved g c =
     let f = g.L.Level.means in
     let w = c.loop-w.w in
-    bucketed_more _ _ w _ _ (lent f c.loop-w.buckets) (lent f c.add-term.new.buckets)
+    bucketed_more _ _ w _ _ (lent f c.loop-w.buckets) (lent f c.add_term.new.buckets)
     (sym (lent_read f c.args.left.now w _ (omega arith) c.index-left-w.is))
-    (sym (lent_read f c.args.right.now w _ (omega arith) c.index-right-w.is)) c.add-term.ensures c.loop-w.invariant
+    (sym (lent_read f c.args.right.now w _ (omega arith) c.index-right-w.is)) c.add_term.ensures c.loop-w.invariant
 
 pub returns : goal.returns
 returns g c =

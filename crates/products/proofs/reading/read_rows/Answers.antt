@@ -4,8 +4,8 @@ use Rattle.products.specs.Buckets.{bytes}
 use Rattle.products.proofs.ReadingBytes.{bytes_begin, bytes_more, all_rows}
 use Rattle.products.proofs.reading.read_rows.Goals as goal
 
-pub read-byte-requires : goal.read-byte-requires
-read-byte-requires g c =
+pub read_byte-requires : goal.read_byte-requires
+read_byte-requires g c =
     let e = eights g.L.Level.log c.requires.wide in
     record { buckets = omega arith; rows = omega arith }
 
@@ -13,7 +13,7 @@ pub loop-j-init : goal.loop-j-init
 loop-j-init g c = bytes_begin _ _
 
 pub loop-j-preserved : goal.loop-j-preserved
-loop-j-preserved g c = bytes_more _ c.loop-j.j _ _ _ _ c.read-byte.ensures c.loop-j.invariant
+loop-j-preserved g c = bytes_more _ c.loop-j.j _ _ _ _ c.read_byte.ensures c.loop-j.invariant
 
 pub returns : goal.returns
 returns g c =

@@ -3,11 +3,11 @@ use Rattle.multilinear.proofs.Lent.{lent_read}
 use Rattle.tensor_algebra.proofs.Kept.{where_in, where_out}
 use Rattle.products.proofs.shifting.entry_before.Goals as goal
 
-pub returns-then-starts-column : goal.returns-then-starts-column
-returns-then-starts-column g c =
-    c.zero.ensures ∙ sym (where_out _ _ (ap not (sym c.starts-column.ensures ∙ c.if-starts-column.true)))
+pub returns-then-starts_column : goal.returns-then-starts_column
+returns-then-starts_column g c =
+    c.zero.ensures ∙ sym (where_out _ _ (ap not (sym c.starts_column.ensures ∙ c.if-starts_column.true)))
 
-pub returns-else-starts-column : goal.returns-else-starts-column
-returns-else-starts-column g c =
+pub returns-else-starts_column : goal.returns-else-starts_column
+returns-else-starts_column g c =
     lent_read g.L.Level.means c.args.inner.now _ _ (omega arith) c.index-inner-j.is
-    ∙ sym (where_in _ _ (ap not (sym c.starts-column.ensures ∙ c.if-starts-column.false)))
+    ∙ sym (where_in _ _ (ap not (sym c.starts_column.ensures ∙ c.if-starts_column.false)))

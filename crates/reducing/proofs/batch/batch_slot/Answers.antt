@@ -20,7 +20,7 @@ batch-requires g c =
     let few : named view ≤ 63 = omega (arith, c.requires.rows, c.requires.short) in
     record {
       narrow = c.requires.narrow;
-      rows = rows_few view α _ 63 (c.stepping-of-stepping.ensures ∙ ap (λ (r : Option ℕ). stepped r α) c.kept-row-variables.ensures) few;
+      rows = rows_few view α _ 63 (c.stepping_of-stepping.ensures ∙ ap (λ (r : Option ℕ). stepped r α) c.kept_row_variables.ensures) few;
       count = c.requires.count;
       batching = batching_width m.log view c.args.challenge (length c.args.batching.now) c.requires.narrow (sym c.requires.passed);
       tensor = c.requires.tensor;
@@ -41,12 +41,12 @@ returns g c =
     let slot = c.slot.result.1.now in
     let spans = c.slot.ensures.coordinates in
     let rows : named view ≤ length p = omega (arith, length-map point m.means, c.requires.rows) in
-    let s = steps m.means c.stepping-of-stepping.result in
-    let e : s ≡ stepped (kept m.log view) α = c.stepping-of-stepping.ensures ∙ ap (λ (r : Option ℕ). stepped r α) c.kept-row-variables.ensures in
+    let s = steps m.means c.stepping_of-stepping.result in
+    let e : s ≡ stepped (kept m.log view) α = c.stepping_of-stepping.ensures ∙ ap (λ (r : Option ℕ). stepped r α) c.kept_row_variables.ensures in
     let width = batching_width m.log view c.args.challenge (length c.args.batching.now) c.requires.narrow (sym c.requires.passed) in
-    let t = c.in-ok-tables.ensures in
+    let t = c.in_ok-tables.ensures in
     record {
-      batched = λ bits worked. batched m.means laws p view bits c.args.opened.now worked b α (map m.means slot) s (m.means c.in-ok-tables.tables.initial) spans e t.initial;
+      batched = λ bits worked. batched m.means laws p view bits c.args.opened.now worked b α (map m.means slot) s (m.means c.in_ok-tables.tables.initial) spans e t.initial;
       count =
           λ bits worked. t.count ∙ sym (size_is m.means laws _ _ _ (rest A p view) worked.factors) ∙ ap (λ q. 2 ^ length q) (sym spans)
           ∙ ap (λ n. 2 ^ n) (length-map slot m.means);
@@ -55,6 +55,6 @@ returns g c =
           (subst (λ q. Factors m.means A A.unit q (vec_items c.args.opened.now.equality.outer) (vec_items c.args.opened.now.equality.inner)) (sym spans) worked.factors) i
           (subst (λ n. i < 2 ^ n) (sym (length-map slot m.means)) h);
       table = t.table;
-      entries = batch_count m.means A c.args.batching.now (vec_items c.in-ok-tables.tables.eq_batch) width t.table;
+      entries = batch_count m.means A c.args.batching.now (vec_items c.in_ok-tables.tables.eq_batch) width t.table;
       rows = rows_in_slot laws p view α s (length slot) e (sym (length-map slot m.means) ∙ ap length spans) rows;
     }

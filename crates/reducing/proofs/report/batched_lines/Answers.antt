@@ -16,51 +16,51 @@ use Rattle.reducing.specs.Batched.{batching_of}
 use Rattle.reducing.proofs.Reports.{few_elements}
 use Rattle.reducing.proofs.report.batched_lines.Given as given
 use Rattle.reducing.proofs.report.batched_lines.Goals as goal
-use Rattle.reducing.proofs.report.batched_lines.Goals.{In-ok-check-batching, at·batch-slot-requires, at·batch-lines-requires, at·returns}
+use Rattle.reducing.proofs.report.batched_lines.Goals.{In-ok-check_batching, at·batch_slot-requires, at·batch_lines-requires, at·returns}
 
-pub returns-in-err-check-batching : goal.returns-in-err-check-batching
-returns-in-err-check-batching g c =
+pub returns-in_err-check_batching : goal.returns-in_err-check_batching
+returns-in_err-check_batching g c =
     let m = g.L.Level in
     let problem = c.args.problem.now in
     let t = task_of m.means problem in
     let b = c.args.batching.now in
     let p = err_from_is_err_and c.from-residual.result c.from-residual.ensures.1 in
-    let sent : c.is-some-sent.result ≡ is_some (kept m.log problem.view) = c.is-some-sent.ensures ∙ ap is_some c.kept-row-variables.ensures in
+    let sent : c.is_some-sent.result ≡ is_some (kept m.log problem.view) = c.is_some-sent.ensures ∙ ap is_some c.kept_row_variables.ensures in
     rw (p.1, p.2) (batching_refused m.arithmetic t (vec_items problem.bits) refl (string_bytes c.args.out.now) t.point refl
     (map m.means b) (length b) (sym (length-map b m.means)) _ (some_mapped m.means problem.challenge) _
-    (c.in-err-check-batching.ensures ∙ ap₂ (λ (s u : Bool). batching (told m.log) s u (length b)) sent c.is-some.ensures))
+    (c.in_err-check_batching.ensures ∙ ap₂ (λ (s u : Bool). batching (told m.log) s u (length b)) sent c.is_some.ensures))
 
 -- the batching is not refused
-passed : (g : given.Over) (c : In-ok-check-batching g) → None ≡ batch_refusal g.L.Level.log c.args.problem.now.view c.args.problem.now.challenge (length c.args.batching.now)
+passed : (g : given.Over) (c : In-ok-check_batching g) → None ≡ batch_refusal g.L.Level.log c.args.problem.now.view c.args.problem.now.challenge (length c.args.batching.now)
 passed g c =
     let m = g.L.Level in
     let problem = c.args.problem.now in
-    let sent : c.is-some-sent.result ≡ is_some (kept m.log problem.view) = c.is-some-sent.ensures ∙ ap is_some c.kept-row-variables.ensures in
-    c.in-ok-check-batching.ensures ∙ ap₂ (λ (s u : Bool). batching (told m.log) s u (length c.args.batching.now)) sent c.is-some.ensures
+    let sent : c.is_some-sent.result ≡ is_some (kept m.log problem.view) = c.is_some-sent.ensures ∙ ap is_some c.kept_row_variables.ensures in
+    c.in_ok-check_batching.ensures ∙ ap₂ (λ (s u : Bool). batching (told m.log) s u (length c.args.batching.now)) sent c.is_some.ensures
 
-pub batch-slot-requires : goal.batch-slot-requires
-batch-slot-requires g c =
+pub batch_slot-requires : goal.batch_slot-requires
+batch_slot-requires g c =
     let m = g.L.Level in
-    let points = ap length c.as-slice-point.ensures.value in
+    let points = ap length c.as_slice-point.ensures.value in
     let w = c.requires.worked in
     let short : length (map m.means (vec_items c.args.problem.now.point)) < 64 = omega (arith, length-map (vec_items c.args.problem.now.point) m.means, c.requires.short) in
     record {
       narrow = c.requires.narrow;
       short = omega (arith, points, c.requires.short);
       rows = omega (arith, points, c.requires.rows);
-      passed = sym (passed g (at·batch-slot-requires g c).In-ok-check-batching);
+      passed = sym (passed g (at·batch_slot-requires g c).In-ok-check_batching);
       count = few_elements m.means g.met.L.Level.ring _ _ _ _ w.factors short;
       tensor = w.tensor_rows;
       carry = w.carry_rows;
       last = w.last_rows;
     }
 
-pub batch-lines-requires : goal.batch-lines-requires
-batch-lines-requires g c =
+pub batch_lines-requires : goal.batch_lines-requires
+batch_lines-requires g c =
     let m = g.L.Level in
     let problem = c.args.problem.now in
-    let worked = subst (λ (xs : List g.row.L.Denot). Worked m.means m.arithmetic (map m.means xs) problem.view (cell (vec_items problem.bits)) c.args.opened.now) (sym c.as-slice-point.ensures.value) c.requires.worked in
-    let b = c.in-ok-batch.ensures in
+    let worked = subst (λ (xs : List g.row.L.Denot). Worked m.means m.arithmetic (map m.means xs) problem.view (cell (vec_items problem.bits)) c.args.opened.now) (sym c.as_slice-point.ensures.value) c.requires.worked in
+    let b = c.in_ok-batch.ensures in
     record { count = b.count _ worked; weights = b.weights _ worked }
 
 pub returns : goal.returns
@@ -70,12 +70,12 @@ returns g c =
     let t = task_of m.means problem in
     let b = c.args.batching.now in
     let points : Vec g.row.L.Denot Global → Point m.log = λ v. map m.means (vec_items v) in
-    let s = batching_of m.means c.in-ok-batch.batch in
-    let w = string_bytes c.batch-lines.new.out in
-    let worked = subst (λ (xs : List g.row.L.Denot). Worked m.means m.arithmetic (map m.means xs) problem.view (cell (vec_items problem.bits)) c.args.opened.now) (sym c.as-slice-point.ensures.value) c.requires.worked in
-    subst (Reported c.closing-lines.result (string_bytes c.closing-lines.new.out))
-    (ap (λ l. w ++ closing_text m.arithmetic s (map points l)) c.as-slice.ensures.value
-    ∙ batching_passed m.arithmetic t (vec_items problem.bits) refl (string_bytes c.args.out.now) _ (ap (map m.means) c.as-slice-point.ensures.value)
+    let s = batching_of m.means c.in_ok-batch.batch in
+    let w = string_bytes c.batch_lines.new.out in
+    let worked = subst (λ (xs : List g.row.L.Denot). Worked m.means m.arithmetic (map m.means xs) problem.view (cell (vec_items problem.bits)) c.args.opened.now) (sym c.as_slice-point.ensures.value) c.requires.worked in
+    subst (Reported c.closing_lines.result (string_bytes c.closing_lines.new.out))
+    (ap (λ l. w ++ closing_text m.arithmetic s (map points l)) c.as_slice.ensures.value
+    ∙ batching_passed m.arithmetic t (vec_items problem.bits) refl (string_bytes c.args.out.now) _ (ap (map m.means) c.as_slice-point.ensures.value)
     (map m.means b) (length b) (sym (length-map b m.means)) _ (some_mapped m.means problem.challenge) w s
-    (passed g (at·returns g c).In-ok-check-batching) (c.in-ok-batch.ensures.batched _ worked) c.in-ok-batch-lines.ensures)
-    c.closing-lines.ensures
+    (passed g (at·returns g c).In-ok-check_batching) (c.in_ok-batch.ensures.batched _ worked) c.in_ok-batch_lines.ensures)
+    c.closing_lines.ensures

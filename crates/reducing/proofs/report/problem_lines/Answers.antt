@@ -13,43 +13,43 @@ use Rattle.report.proofs.Writing.{below_same}
 use Rattle.reducing.proofs.Reports.{stride_is}
 use Rattle.reducing.proofs.report.problem_lines.Goals as goal
 
-pub returns-in-err-variables : goal.returns-in-err-variables
-returns-in-err-variables g c =
+pub returns-in_err-variables : goal.returns-in_err-variables
+returns-in_err-variables g c =
     let m = g.L.Level in
     let t = task_of m.means c.args.problem.now in
     let p = err_from_is_err_and c.from-residual.result c.from-residual.ensures.1 in
-    rw (p.1, p.2) (packing_refused m.arithmetic t _ c.as-slice-bits.ensures.value (string_bytes c.args.out.now) _ c.in-err-variables.ensures.refusal)
+    rw (p.1, p.2) (packing_refused m.arithmetic t _ c.as_slice-bits.ensures.value (string_bytes c.args.out.now) _ c.in_err-variables.ensures.refusal)
 
 pub overflow-shl-variables : goal.overflow-shl-variables
 overflow-shl-variables g c =
-    let small : length c.as-slice-bits.result.now ≤ 2 ^ 24 = omega (arith, c.requires, ap length c.as-slice-bits.ensures.value) in
-    omega (arith, few _ _ _ c.in-ok-variables.ensures.packs small)
+    let small : length c.as_slice-bits.result.now ≤ 2 ^ 24 = omega (arith, c.requires, ap length c.as_slice-bits.ensures.value) in
+    omega (arith, few _ _ _ c.in_ok-variables.ensures.packs small)
 
 pub pack-requires : goal.pack-requires
 pack-requires g c =
     let k = g.L.Level.log in
-    let n = length c.as-slice-bits.result.now in
-    let small : n ≤ 2 ^ 24 = omega (arith, c.requires, ap length c.as-slice-bits.ensures.value) in
-    let p = c.in-ok-variables.ensures.packs in
-    let cells = packable k n c.in-ok-variables.ensures.refusal in
-    let v = c.in-ok-variables.variables in
+    let n = length c.as_slice-bits.result.now in
+    let small : n ≤ 2 ^ 24 = omega (arith, c.requires, ap length c.as_slice-bits.ensures.value) in
+    let p = c.in_ok-variables.ensures.packs in
+    let cells = packable k n c.in_ok-variables.ensures.refusal in
+    let v = c.in_ok-variables.variables in
     record {
       level = (cells.wide, cells.narrow);
       count = p.bytes ∙ ap₂ (λ (a b : ℕ). a * b) (sym (one_shl v 64 (omega (arith, few _ _ _ p small)))) (sym (stride_is k cells.wide cells.narrow));
     }
 
-pub opened-lines-requires : goal.opened-lines-requires
-opened-lines-requires g c =
+pub opened_lines-requires : goal.opened_lines-requires
+opened_lines-requires g c =
     let m = g.L.Level in
-    let bits = c.as-slice-bits.ensures.value in
-    let n = length c.as-slice-bits.result.now in
+    let bits = c.as_slice-bits.ensures.value in
+    let n = length c.as_slice-bits.result.now in
     let small : n ≤ 2 ^ 24 = omega (arith, c.requires, ap length bits) in
-    let p = c.in-ok-variables.ensures.packs in
-    let cells = packable m.log n c.in-ok-variables.ensures.refusal in
-    let v = c.in-ok-variables.variables in
+    let p = c.in_ok-variables.ensures.packs in
+    let cells = packable m.log n c.in_ok-variables.ensures.refusal in
+    let v = c.in_ok-variables.variables in
     let shifted = one_shl v 64 (omega (arith, few _ _ _ p small)) in
-    let items = c.as-slice-2.ensures.value in
-    let e = c.in-ok-packed.ensures in
+    let items = c.as_slice-2.ensures.value in
+    let e = c.in_ok-packed.ensures in
     record {
       wide = cells.wide;
       narrow = cells.narrow;
@@ -65,18 +65,18 @@ pub returns : goal.returns
 returns g c =
     let m = g.L.Level in
     let t = task_of m.means c.args.problem.now in
-    let bits = c.as-slice-bits.ensures.value in
-    let small : length c.as-slice-bits.result.now ≤ 2 ^ 24 = omega (arith, c.requires, ap length bits) in
-    let p = c.in-ok-variables.ensures.packs in
-    let v = c.in-ok-variables.variables in
-    let items = c.as-slice.ensures.value in
-    let e = c.in-ok-packed.ensures in
-    let xs = c.as-slice.result.now in
+    let bits = c.as_slice-bits.ensures.value in
+    let small : length c.as_slice-bits.result.now ≤ 2 ^ 24 = omega (arith, c.requires, ap length bits) in
+    let p = c.in_ok-variables.ensures.packs in
+    let v = c.in_ok-variables.variables in
+    let items = c.as_slice.ensures.value in
+    let e = c.in_ok-packed.ensures in
+    let xs = c.as_slice.result.now in
     let count : length xs ≡ 2 ^ v = ap length items ∙ e.count ∙ one_shl v 64 (omega (arith, few _ _ _ p small)) in
-    let lines : lines_below (length xs) (λ i. line (codes "packed") (element_text (lent m.means xs i))) ≡ lines_below (length xs) (packed_line m.log (cell c.as-slice-bits.result.now)) =
-    below_same (length xs) (λ i. line (codes "packed") (element_text (lent m.means xs i))) (packed_line m.log (cell c.as-slice-bits.result.now))
+    let lines : lines_below (length xs) (λ i. line (codes "packed") (element_text (lent m.means xs i))) ≡ lines_below (length xs) (packed_line m.log (cell c.as_slice-bits.result.now)) =
+    below_same (length xs) (λ i. line (codes "packed") (element_text (lent m.means xs i))) (packed_line m.log (cell c.as_slice-bits.result.now))
     (λ i h. ap (λ x. line (codes "packed") (element_text x)) (ap (λ ys. lent m.means ys i) items ∙ e.elements i (subst (λ (j : ℕ). i < j) (ap length items ∙ e.count) h))) in
-    subst (Reported c.opened-lines.result (string_bytes c.opened-lines.new.out))
-    (packing_passed m.arithmetic t _ bits (string_bytes c.args.out.now) (string_bytes c.element-lines.new.out) v (length xs) c.in-ok-variables.ensures.refusal
-    (variables_are _ _ _ p small) count (c.in-ok-element-lines.ensures ∙ ap (λ s. string_bytes c.args.out.now ++ s) lines))
-    c.opened-lines.ensures
+    subst (Reported c.opened_lines.result (string_bytes c.opened_lines.new.out))
+    (packing_passed m.arithmetic t _ bits (string_bytes c.args.out.now) (string_bytes c.element_lines.new.out) v (length xs) c.in_ok-variables.ensures.refusal
+    (variables_are _ _ _ p small) count (c.in_ok-element_lines.ensures ∙ ap (λ s. string_bytes c.args.out.now ++ s) lines))
+    c.opened_lines.ensures

@@ -4,18 +4,18 @@ use Rattle.reduction.proofs.Filled.{filled}
 use Rattle.reducing.proofs.Stepping.{count_is}
 use Rattle.reducing.proofs.steps.pack.Goals as goal
 
-pub pack-elements-requires : goal.pack-elements-requires
-pack-elements-requires g c = record {
+pub pack_elements-requires : goal.pack_elements-requires
+pack_elements-requires g c = record {
   level = c.requires.level;
-  room = omega (arith, count_is g.L.Level.log (length c.args.bits.now) c.args.count c.requires.count, c.as-mut-slice.ensures.len, c.in-ok-resize.ensures.len);
+  room = omega (arith, count_is g.L.Level.log (length c.args.bits.now) c.args.count c.requires.count, c.as_mut_slice.ensures.len, c.in_ok-resize.ensures.len);
 }
 
 pub returns : goal.returns
 returns g c =
     let m = g.L.Level.means in
-    let whole = filled c.pack-elements.new.elements c.resize.new.self.items c.resize.new.self.len (c.pack-elements.auto.elements ∙ c.as-mut-slice.ensures.len) in
-    let all = c.pack-elements.ensures.count ∙ count_is g.L.Level.log (length c.args.bits.now) c.args.count c.requires.count in
+    let whole = filled c.pack_elements.new.elements c.resize.new.self.items c.resize.new.self.len (c.pack_elements.auto.elements ∙ c.as_mut_slice.ensures.len) in
+    let all = c.pack_elements.ensures.count ∙ count_is g.L.Level.log (length c.args.bits.now) c.args.count c.requires.count in
     record {
-      count = sym (ap length whole) ∙ c.pack-elements.auto.elements ∙ c.as-mut-slice.ensures.len ∙ c.in-ok-resize.ensures.len;
-      elements = λ w h. sym (ap (λ xs. lent m xs w) whole) ∙ c.pack-elements.ensures.packed.elements w (omega (arith, all));
+      count = sym (ap length whole) ∙ c.pack_elements.auto.elements ∙ c.as_mut_slice.ensures.len ∙ c.in_ok-resize.ensures.len;
+      elements = λ w h. sym (ap (λ xs. lent m xs w) whole) ∙ c.pack_elements.ensures.packed.elements w (omega (arith, all));
     }

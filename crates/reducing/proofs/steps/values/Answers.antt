@@ -14,8 +14,8 @@ returns g c bits binary worked =
     let n = length-map point m.means in
     let absorbed : m.log ≤ length p = omega (arith, n, c.requires.absorbed) in
     let rows : named c.args.view ≤ length p = omega (arith, n, c.requires.rows) in
-    let table = c.in-ok-eq-low.ensures.table in
+    let table = c.in_ok-eq_low.ensures.table in
     same_values _ _ _ _ _ _
-    (c.in-ok-incoming.ensures p c.args.view bits binary absorbed (subst (Tabulated m.means m.arithmetic m.arithmetic.unit (low p)) (sym c.as-slice.ensures.value) table) worked)
-    (c.in-ok-successor.ensures p bits binary absorbed rows (subst (Tabulated m.means m.arithmetic m.arithmetic.unit (low p)) (sym c.as-slice-2.ensures.value) table) worked)
-    (same_prefix _ _ _ c.fixed-prefix-prefix.ensures.count c.fixed-prefix-prefix.ensures.address)
+    (c.in_ok-incoming.ensures p c.args.view bits binary absorbed (subst (Tabulated m.means m.arithmetic m.arithmetic.unit (low p)) (sym c.as_slice.ensures.value) table) worked)
+    (c.in_ok-successor.ensures p bits binary absorbed rows (subst (Tabulated m.means m.arithmetic m.arithmetic.unit (low p)) (sym c.as_slice-2.ensures.value) table) worked)
+    (same_prefix _ _ _ c.fixed_prefix-prefix.ensures.count c.fixed_prefix-prefix.ensures.address)

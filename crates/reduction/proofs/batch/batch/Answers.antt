@@ -9,23 +9,23 @@ use Rattle.closing.proofs.Agreeing.{weight_agrees, initial_sum_agrees}
 use Rattle.reduction.proofs.Working.{batch_count}
 use Rattle.reduction.proofs.batch.batch.Goals as goal
 
-pub weights-of-requires : goal.weights-of-requires
-weights-of-requires g c =
+pub weights_of-requires : goal.weights_of-requires
+weights_of-requires g c =
     let m = g.L.Level in
     record {
       narrow = c.requires.narrow;
       rows = c.requires.rows;
       count = c.requires.count;
-      eq-batch = ap length c.as-slice-eq-batch.ensures.value
-          ∙ batch_count m.means m.arithmetic c.args.batching.now (vec_items c.in-ok-table.table) c.requires.batching c.in-ok-table.ensures;
+      eq-batch = ap length c.as_slice-eq_batch.ensures.value
+          ∙ batch_count m.means m.arithmetic c.args.batching.now (vec_items c.in_ok-table.table) c.requires.batching c.in_ok-table.ensures;
     }
 
-pub initial-of-initial-requires : goal.initial-of-initial-requires
-initial-of-initial-requires g c =
+pub initial_of-initial-requires : goal.initial_of-initial-requires
+initial_of-initial-requires g c =
     let m = g.L.Level in
     record {
-      eq-batch = ap length c.as-slice-eq-batch.ensures.value
-          ∙ batch_count m.means m.arithmetic c.args.batching.now (vec_items c.in-ok-table.table) c.requires.batching c.in-ok-table.ensures;
+      eq-batch = ap length c.as_slice-eq_batch.ensures.value
+          ∙ batch_count m.means m.arithmetic c.args.batching.now (vec_items c.in_ok-table.table) c.requires.batching c.in_ok-table.ensures;
       tensor = c.requires.tensor;
       carry = c.requires.carry;
       last = c.requires.last;
@@ -36,17 +36,17 @@ returns g c =
     let m = g.L.Level in
     let A = m.arithmetic in
     let b = map m.means c.args.batching.now in
-    let table = c.in-ok-table.ensures in
-    let es = c.as-slice-eq-batch.result.now in
-    let value = c.as-slice-eq-batch.ensures.value in
-    let wide = batch_count m.means A c.args.batching.now (vec_items c.in-ok-table.table) c.requires.batching table in
+    let table = c.in_ok-table.ensures in
+    let es = c.as_slice-eq_batch.result.now in
+    let value = c.as_slice-eq_batch.ensures.value in
+    let wide = batch_count m.means A c.args.batching.now (vec_items c.in_ok-table.table) c.requires.batching table in
     let agree : (u : ℕ) → u < width m.log → lent m.means es u ≡ equality A b u =
-    λ u h. ap (λ xs. lent m.means xs u) value ∙ tabulated_at m.means A b (vec_items c.in-ok-table.table) wide table u h in
+    λ u h. ap (λ xs. lent m.means xs u) value ∙ tabulated_at m.means A b (vec_items c.in_ok-table.table) wide table u h in
     let s = steps m.means c.args.stepping in
-    let rows = c.in-ok-weights.ensures in
+    let rows = c.in_ok-weights.ensures in
     record {
       table = table;
-      initial = c.initial-of-initial.ensures ∙ initial_sum_agrees A (lent m.means es) (equality A b) agree s _ _ _;
+      initial = c.initial_of-initial.ensures ∙ initial_sum_agrees A (lent m.means es) (equality A b) agree s _ _ _;
       count = rows.count;
       weights = λ p f i h. rows.weights p f i h ∙ weight_agrees A (lent m.means es) (equality A b) agree p s i;
     }

@@ -8,12 +8,12 @@ pub returns : goal.returns
 returns g c =
     let m = g.L.Level in
     let e = c.reading-equality.ensures in
-    let whole = filled c.weights-over.new.table c.in-ok-weights.weights.items c.in-ok-weights.weights.len (c.weights-over.auto.table ∙ c.as-mut-slice.ensures.len) in
+    let whole = filled c.weights_over.new.table c.in_ok-weights.weights.items c.in_ok-weights.weights.len (c.weights_over.auto.table ∙ c.as_mut_slice.ensures.len) in
     record {
       count =
-          sym (ap length whole) ∙ c.weights-over.auto.table ∙ ap length c.as-mut-slice.ensures.value ∙ c.in-ok-weights.ensures ∙ c.num-evals.ensures
+          sym (ap length whole) ∙ c.weights_over.auto.table ∙ ap length c.as_mut_slice.ensures.value ∙ c.in_ok-weights.ensures ∙ c.num_evals.ensures
           ∙ ap₂ (λ a b. a * b) (ap length e.outer) (ap length e.inner);
       weights =
           λ p f i h. sym (ap (λ xs. lent m.means xs i) whole)
-          ∙ c.weights-over.ensures.weights p (subst₂ (λ xs ys. Factors m.means m.arithmetic m.arithmetic.unit p xs ys) (sym e.outer) (sym e.inner) f) i h;
+          ∙ c.weights_over.ensures.weights p (subst₂ (λ xs ys. Factors m.means m.arithmetic m.arithmetic.unit p xs ys) (sym e.outer) (sym e.inner) f) i h;
     }

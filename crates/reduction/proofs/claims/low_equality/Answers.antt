@@ -4,14 +4,14 @@ use Rattle.equality.specs.Tables.{Tabulated}
 use Rattle.reduction.proofs.Working.{low_map, low_count}
 use Rattle.reduction.proofs.claims.low_equality.Goals as goal
 
-pub equality-of-requires : goal.equality-of-requires
-equality-of-requires g c = omega (arith, ap length c.low-of.ensures, length-drop (length c.args.point.now - g.L.Level.log) c.args.point.now, c.requires.0, c.requires.1)
+pub equality_of-requires : goal.equality_of-requires
+equality_of-requires g c = omega (arith, ap length c.low_of.ensures, length-drop (length c.args.point.now - g.L.Level.log) c.args.point.now, c.requires.0, c.requires.1)
 
 pub returns : goal.returns
 returns g c =
     let m = g.L.Level in
     let point = c.args.point.now in
-    let low = ap (map m.means) c.low-of.ensures ∙ low_map m.means point _ refl in
-    let table = subst (λ q. Tabulated m.means m.arithmetic m.arithmetic.unit q (vec_items c.in-ok-table.table)) low c.in-ok-table.ensures in
+    let low = ap (map m.means) c.low_of.ensures ∙ low_map m.means point _ refl in
+    let table = subst (λ q. Tabulated m.means m.arithmetic m.arithmetic.unit q (vec_items c.in_ok-table.table)) low c.in_ok-table.ensures in
     let absorbed : m.log ≤ length (map m.means point) = omega (arith, length-map point m.means, c.requires.1) in
     record { table = table; count = low_count (map m.means point) _ absorbed table.size }

@@ -7,5 +7,5 @@ pub returns : goal.returns
 returns g c =
     let m = g.L.Level in
     subst₂ (λ s xs. Tabulated m.means m.arithmetic s (map m.means c.args.point.now) xs) c.one.ensures
-    (filled c.equality-table.new.table c.in-ok-table.table.items c.in-ok-table.table.len (c.equality-table.auto.table ∙ c.as-mut-slice.ensures.len))
-    c.equality-table.ensures
+    (filled c.equality_table.new.table c.in_ok-table.table.items c.in_ok-table.table.len (c.equality_table.auto.table ∙ c.as_mut_slice.ensures.len))
+    c.equality_table.ensures

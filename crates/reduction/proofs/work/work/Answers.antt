@@ -6,31 +6,31 @@ use Rattle.ring_switch.specs.Opening.{View, kept}
 use Rattle.reduction.proofs.Working.{kept_some, opens_at, slot_inside, slot_factors, filled_inner, columns_whole}
 use Rattle.reduction.proofs.work.work.Goals as goal
 
-pub tensor-of-requires : goal.tensor-of-requires
-tensor-of-requires g c =
+pub tensor_of-requires : goal.tensor_of-requires
+tensor_of-requires g c =
     let m = g.L.Level in
     let s = c.slot_start.ensures in
     let e = c.reading-equality.ensures in
     record {
       wide = c.requires.wide;
       narrow = c.requires.narrow;
-      slot = slot_inside m.means g.met.L.Level.ring c.args.point.now _ _ _ c.args.view s.coordinates c.in-ok-factors.ensures _ _ _ _ s.start c.requires.elements e.outer e.inner;
+      slot = slot_inside m.means g.met.L.Level.ring c.args.point.now _ _ _ c.args.view s.coordinates c.in_ok-factors.ensures _ _ _ _ s.start c.requires.elements e.outer e.inner;
     }
 
-pub successor-tensors-requires : goal.successor-tensors-requires
-successor-tensors-requires g c =
+pub successor_tensors-requires : goal.successor_tensors-requires
+successor_tensors-requires g c =
     let m = g.L.Level in
     let laws = g.met.L.Level.ring in
     let point = c.args.point.now in
     let s = c.slot_start.ensures in
     let e = c.reading-equality.ensures in
-    let f = c.in-ok-factors.ensures in
+    let f = c.in_ok-factors.ensures in
     record {
       wide = c.requires.wide;
       narrow = c.requires.narrow;
       filled = filled_inner m.means laws point _ _ _ c.args.view s.coordinates f _ e.inner;
       slot = slot_inside m.means laws point _ _ _ c.args.view s.coordinates f _ _ _ _ s.start c.requires.elements e.outer e.inner;
-      columns = columns_whole m.means laws point _ _ _ c.args.view s.coordinates f _ _ _ e.outer e.inner c.kept-row-variables-kept.ensures c.requires.rows c.requires.short;
+      columns = columns_whole m.means laws point _ _ _ c.args.view s.coordinates f _ _ _ e.outer e.inner c.kept_row_variables-kept.ensures c.requires.rows c.requires.short;
     }
 
 pub returns : goal.returns
@@ -42,18 +42,18 @@ returns g c bits same =
     let view = c.args.view in
     let s = c.slot_start.ensures in
     let e = c.reading-equality.ensures in
-    let f = c.in-ok-factors.ensures in
+    let f = c.in_ok-factors.ensures in
     let opens = opens_at m.means laws point _ _ _ view s.coordinates f _ _ _ _ s.start c.requires.elements e.outer e.inner bits same in
     let under : (q : ℕ) → view ≡ Some q → Opens m.means m.arithmetic p (Some q) bits c.args.packed.now c.slot_start.result.0 c.reading-equality.result.outer.now c.reading-equality.result.inner.now =
     λ q v. subst (λ (w : View). Opens m.means m.arithmetic p w bits c.args.packed.now c.slot_start.result.0 c.reading-equality.result.outer.now c.reading-equality.result.inner.now) v opens in
     let within : (q : ℕ) → view ≡ Some q → q ≤ length p = λ q v. omega (arith, length-map point m.means, ap named v, c.requires.rows) in
-    let t = c.in-ok-carry.ensures in
+    let t = c.in_ok-carry.ensures in
     record {
       factors = slot_factors m.means laws point _ _ _ view s.coordinates f;
-      tensor_rows = c.in-ok-tensor.ensures.count;
+      tensor_rows = c.in_ok-tensor.ensures.count;
       carry_rows = t.carry_rows;
       last_rows = t.last_rows;
-      tensor_is = c.in-ok-tensor.ensures.rows p view bits opens;
-      carry_is = λ q v h. t.carry p q bits (under q v) (within q v) (c.kept-row-variables-kept.ensures ∙ ap (kept m.log) v ∙ kept_some m.log q h);
-      last_is = λ q v h. t.last p q bits (under q v) (within q v) (c.kept-row-variables-kept.ensures ∙ ap (kept m.log) v ∙ kept_some m.log q h);
+      tensor_is = c.in_ok-tensor.ensures.rows p view bits opens;
+      carry_is = λ q v h. t.carry p q bits (under q v) (within q v) (c.kept_row_variables-kept.ensures ∙ ap (kept m.log) v ∙ kept_some m.log q h);
+      last_is = λ q v h. t.last p q bits (under q v) (within q v) (c.kept_row_variables-kept.ensures ∙ ap (kept m.log) v ∙ kept_some m.log q h);
     }

@@ -14,7 +14,7 @@ pub loop-i-preserved : goal.loop-i-preserved
 loop-i-preserved g c =
     let i = c.loop-i.i in
     let f : ℕ → List ℕ = λ j. line c.args.word.now (element_text (lent g.L.Level.means c.args.elements.now j)) in
-    below_more f (string_bytes c.args.out.now) (string_bytes c.loop-i.out) (string_bytes c.line-at.new.out) (f i) i c.loop-i.invariant c.in-ok-line-at.ensures refl
+    below_more f (string_bytes c.args.out.now) (string_bytes c.loop-i.out) (string_bytes c.line_at.new.out) (f i) i c.loop-i.invariant c.in_ok-line_at.ensures refl
 
 pub returns : goal.returns
 returns g c =

@@ -15,5 +15,5 @@ returns g c =
     let successor = line (codes "successor") (optional_text (option_map m.means o.successor)) in
     let prefix = line (codes "prefix") (decimal o.prefix) in
     let address = line (codes "address") (decimal o.address) in
-    two_and_two (string_bytes c.args.out.now) (string_bytes c.claim-lines.new.out) (string_bytes c.prefix-lines.new.out) incoming successor prefix address
-    c.in-ok-claim-lines.ensures c.in-ok-prefix-lines.ensures
+    two_and_two (string_bytes c.args.out.now) (string_bytes c.claim_lines.new.out) (string_bytes c.prefix_lines.new.out) incoming successor prefix address
+    c.in_ok-claim_lines.ensures c.in_ok-prefix_lines.ensures

@@ -2,10 +2,10 @@ use Rattle.report.proofs.Packed.{packable, some, packs}
 use Rattle.report.proofs.variables.packed_variables.Goals as goal
 
 pub ilog2-requires : goal.ilog2-requires
-ilog2-requires g c = some _ _ (packable _ _ c.in-ok-check-packing.ensures) _ c.packed-elements.ensures
+ilog2-requires g c = some _ _ (packable _ _ c.in_ok-check_packing.ensures) _ c.packed_elements.ensures
 
 pub returns : goal.returns
 returns g c = record {
-  refusal = c.in-ok-check-packing.ensures;
-  packs = packs _ _ (packable _ _ c.in-ok-check-packing.ensures) _ _ c.packed-elements.ensures c.ilog2.ensures.power_le c.ilog2.ensures.next-power-gt;
+  refusal = c.in_ok-check_packing.ensures;
+  packs = packs _ _ (packable _ _ c.in_ok-check_packing.ensures) _ _ c.packed_elements.ensures c.ilog2.ensures.power_le c.ilog2.ensures.next-power-gt;
 }

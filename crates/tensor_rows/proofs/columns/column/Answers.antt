@@ -6,8 +6,8 @@ use Rattle.tensor_rows.proofs.columns.column.Goals as goal
 pub loop-u-init : goal.loop-u-init
 loop-u-init g c = search (rules, gathered_none)
 
-pub column-with-row-column-requires : goal.column-with-row-column-requires
-column-with-row-column-requires g c =
+pub column_with_row-column-requires : goal.column_with_row-column-requires
+column_with_row-column-requires g c =
     let k = g.L.Level.log in
     let h = c.requires.narrow in record {
       narrow = h;

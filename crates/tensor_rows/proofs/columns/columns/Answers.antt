@@ -8,8 +8,8 @@ loop-v-preserved g c =
     let means = g.L.Level.means in
     let v = c.loop-v.v in
     written_more means _ _ _ v _ (omega (arith, c.loop-v.auto.out))
-    (column_from means c.args.rows.now c.row-coordinates-source.result v _ _ _ c.requires.rows c.row-coordinates-source.ensures
-    c.gather.ensures c.from-coordinates.ensures)
+    (column_from means c.args.rows.now c.row_coordinates-source.result v _ _ _ c.requires.rows c.row_coordinates-source.ensures
+    c.gather.ensures c.from_coordinates.ensures)
     c.loop-v.invariant
 
 pub returns : goal.returns

@@ -8,7 +8,7 @@ loop-c-init g c = columns_none g.L.Level.means g.L.Level.arithmetic c.args.rows 
 
 pub loop-c-preserved : goal.loop-c-preserved
 loop-c-preserved g c =
-    let column = c.column-at-start.ensures in
+    let column = c.column_at-start.ensures in
     let carry = c.carry_column.ensures in
     columns_more g.L.Level.means g.L.Level.arithmetic c.args.rows (g.L.Level.means c.args.alpha) c.args.table.now c.loop-c.table c.carry_column.new.table c.loop-c.c _ _
     column.start column.end carry.carried carry.before carry.after c.loop-c.invariant

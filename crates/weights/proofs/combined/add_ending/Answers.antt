@@ -7,8 +7,8 @@ loop-c-init g c = record { done = λ j h. absurd (omega arith); rest = λ j h. r
 
 pub loop-c-preserved : goal.loop-c-preserved
 loop-c-preserved g c =
-    ended_more g.L.Level.means g.L.Level.arithmetic c.args.rows (g.L.Level.means c.args.factor) c.args.table.now c.loop-c.table c.loop-c.c c.last-entry-i.result _ _ _
-    (omega arith) c.last-entry-i.ensures.place c.index-table-i.is c.mul.ensures c.add.ensures c.loop-c.invariant
+    ended_more g.L.Level.means g.L.Level.arithmetic c.args.rows (g.L.Level.means c.args.factor) c.args.table.now c.loop-c.table c.loop-c.c c.last_entry-i.result _ _ _
+    (omega arith) c.last_entry-i.ensures.place c.index-table-i.is c.mul.ensures c.add.ensures c.loop-c.invariant
 
 pub returns : goal.returns
 returns g c =

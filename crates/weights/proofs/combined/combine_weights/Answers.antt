@@ -6,6 +6,6 @@ use Rattle.weights.proofs.combined.combine_weights.Goals as goal
 pub returns : goal.returns
 returns g c = λ i h.
     let m = g.L.Level.means in
-    let size : length c.add-ending.new.table ≡ length c.args.table.now = search rules in
-    stepped_is g.L.Level.arithmetic c.args.rows (m c.args.alpha) _ (lent m c.args.table.now) (lent m c.add-ending.new.table) i _
-    c.square.ensures (c.add-ending.ensures i h) (c.add-ending.ensures (i - 1) (omega arith)) (c.add-carried.ensures i (omega arith))
+    let size : length c.add_ending.new.table ≡ length c.args.table.now = search rules in
+    stepped_is g.L.Level.arithmetic c.args.rows (m c.args.alpha) _ (lent m c.args.table.now) (lent m c.add_ending.new.table) i _
+    c.square.ensures (c.add_ending.ensures i h) (c.add_ending.ensures (i - 1) (omega arith)) (c.add_carried.ensures i (omega arith))

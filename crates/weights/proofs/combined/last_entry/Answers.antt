@@ -2,8 +2,8 @@ use Rattle.std.proofs.Common.{◌+◌, ◌-◌, ◌*◌, ◌^◌, ◌<◌, arith
 use Rattle.folding.proofs.Folds.{column_within}
 use Rattle.weights.proofs.combined.last_entry.Goals as goal
 
-pub last-of-column-requires : goal.last-of-column-requires
-last-of-column-requires c =
+pub last_of_column-requires : goal.last_of_column-requires
+last_of_column-requires c =
     let column = 2 ^ c.args.rows in
     let within : c.args.c * column + (column - 1) < c.args.len = column_within c.args.c column c.args.len (pow_pos c.args.rows) c.requires.1 in
     search rules
@@ -12,4 +12,4 @@ pub returns : goal.returns
 returns c =
     let column = 2 ^ c.args.rows in
     let within : c.args.c * column + (column - 1) < c.args.len = column_within c.args.c column c.args.len (pow_pos c.args.rows) c.requires.1 in
-    record { place = c.last-of-column.ensures; within = omega (arith, c.last-of-column.ensures) }
+    record { place = c.last_of_column.ensures; within = omega (arith, c.last_of_column.ensures) }

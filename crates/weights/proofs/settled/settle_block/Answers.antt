@@ -9,6 +9,6 @@ returns g c f tabulated j h =
     let m = g.L.Level in
     let weighed = scaled m.arithmetic f (m.means c.args.weight) in
     block_settled m.means g.met.L.Level.ring f _ _ _
-    (c.apply-into.ensures.weights weighed
+    (c.apply_into.ensures.weights weighed
     (subst (λ xs. Tabulated weighed (lent m.means xs)) (sym c.new-2.ensures)
-    (c.scaled-sums-into.ensures.weights f (subst (λ xs. Tabulated f (lent m.means xs)) (sym c.new.ensures) tabulated))) j h)
+    (c.scaled_sums_into.ensures.weights f (subst (λ xs. Tabulated f (lent m.means xs)) (sym c.new.ensures) tabulated))) j h)

@@ -12,10 +12,10 @@ returns-in-Some g c =
     record {
       weights =
           λ p f i h.
-          let size = size_is m.means laws _ _ _ p f ∙ sym c.requires.table ∙ sym c.settled-weights.auto.table in
-          weighed_stepped m.arithmetic (lent m.means c.args.eq-batch.now) p _ _ (lent m.means c.settled-weights.new.table) i _ (ap (steps m.means) c.in-Some.is)
-          (c.settled-weights.ensures.weights _ p f) h (c.combine.ensures i (subst (λ n. i < n) size h));
-      scratch = c.settled-weights.ensures.scratch;
+          let size = size_is m.means laws _ _ _ p f ∙ sym c.requires.table ∙ sym c.settled_weights.auto.table in
+          weighed_stepped m.arithmetic (lent m.means c.args.eq_batch.now) p _ _ (lent m.means c.settled_weights.new.table) i _ (ap (steps m.means) c.in-Some.is)
+          (c.settled_weights.ensures.weights _ p f) h (c.combine.ensures i (subst (λ n. i < n) size h));
+      scratch = c.settled_weights.ensures.scratch;
     }
 
 pub returns-in-default : goal.returns-in-default
@@ -23,6 +23,6 @@ returns-in-default g c =
     let m = g.L.Level in
     record {
       weights =
-          λ p f i h. weighed_plain m.arithmetic (lent m.means c.args.eq-batch.now) p _ i _ (ap (steps m.means) c.in-default.is) (c.settled-weights.ensures.weights _ p f i h);
-      scratch = c.settled-weights.ensures.scratch;
+          λ p f i h. weighed_plain m.arithmetic (lent m.means c.args.eq_batch.now) p _ i _ (ap (steps m.means) c.in-default.is) (c.settled_weights.ensures.weights _ p f i h);
+      scratch = c.settled_weights.ensures.scratch;
     }

@@ -9,7 +9,7 @@ pub loop-i-preserved : goal.loop-i-preserved
 loop-i-preserved g c =
     let m = g.L.Level in
     written_more m.means (λ i. looked_up (lent m.means c.args.self.now.tables.now) (lent m.means c.args.input.now i)) c.loop-i.output
-    c.loop-i.i _ (omega arith) c.loop-i.invariant c.sum-at.ensures
+    c.loop-i.i _ (omega arith) c.loop-i.invariant c.sum_at.ensures
 
 pub returns : goal.returns
 returns g c =

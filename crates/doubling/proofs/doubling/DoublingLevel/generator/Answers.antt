@@ -4,4 +4,4 @@ use Rattle.doubling.proofs.doubling.DoublingLevel.generator.Goals as goal
 
 pub returns : goal.returns
 unfolding doubled
-returns g c = ap₂ join c.generator-halves.ensures.low c.generator-halves.ensures.high
+returns g c = ap₂ join c.generator_halves.ensures.low c.generator_halves.ensures.high

@@ -4,4 +4,4 @@ use Rattle.doubling.proofs.doubling.DoublingLevel.one.Goals as goal
 
 pub returns : goal.returns
 unfolding doubled
-returns g c = ap₂ join c.one-halves.ensures.low c.one-halves.ensures.high
+returns g c = ap₂ join c.one_halves.ensures.low c.one_halves.ensures.high

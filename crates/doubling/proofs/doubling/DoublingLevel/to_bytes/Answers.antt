@@ -9,7 +9,7 @@ use Rattle.doubling.proofs.Shifts.{sixteen_wide, shift_fits, joined_number}
 use Rattle.doubling.proofs.doubling.DoublingLevel.to_bytes.Goals as goal
 
 pub returns-then-k-ge7 : goal.returns-then-k-ge7
-returns-then-k-ge7 g c = c.to-bytes-low.ensures ∙ sixteen_wide _ _ (omega (arith, c.log-width-k.ensures, c.if-k-ge7.true))
+returns-then-k-ge7 g c = c.to_bytes-low.ensures ∙ sixteen_wide _ _ (omega (arith, c.log_width-k.ensures, c.if-k-ge7.true))
 
 pub joined-requires : goal.joined-requires
 joined-requires g c = rw c.coordinates.ensures (shift_fits _ c.if-k-ge7.false)
@@ -20,12 +20,12 @@ returns g c =
     let m = g.L.Level in
     let a = m.means c.args.self.low in
     let b = m.means c.args.self.high in
-    let k : m.log < 7 = omega (arith, c.log-width-k.ensures, c.if-k-ge7.false) in
-    let same : c.log-width-k.result ≡ m.log = omega (arith, c.log-width-k.ensures) in
-    let lo : c.from-le-bytes.result ≡ a.number =
-    from_le_bytes _ _ (ap length c.to-bytes-low.ensures ∙ length_digits 16 _) c.from-le-bytes.ensures ∙ ap le_number c.to-bytes-low.ensures ∙ le_sixteen a (omega arith) in
-    let hi : c.from-le-bytes-high.result ≡ b.number =
-    from_le_bytes _ _ (ap length c.to-bytes.ensures ∙ length_digits 16 _) c.from-le-bytes-high.ensures ∙ ap le_number c.to-bytes.ensures ∙ le_sixteen b (omega arith) in
+    let k : m.log < 7 = omega (arith, c.log_width-k.ensures, c.if-k-ge7.false) in
+    let same : c.log_width-k.result ≡ m.log = omega (arith, c.log_width-k.ensures) in
+    let lo : c.from_le_bytes.result ≡ a.number =
+    from_le_bytes _ _ (ap length c.to_bytes-low.ensures ∙ length_digits 16 _) c.from_le_bytes.ensures ∙ ap le_number c.to_bytes-low.ensures ∙ le_sixteen a (omega arith) in
+    let hi : c.from_le_bytes-high.result ≡ b.number =
+    from_le_bytes _ _ (ap length c.to_bytes.ensures ∙ length_digits 16 _) c.from_le_bytes-high.ensures ∙ ap le_number c.to_bytes.ensures ∙ le_sixteen b (omega arith) in
     let w : c.coordinates.result ≡ 2 ^ m.log = c.coordinates.ensures ∙ ap (λ n. 2 ^ n) same in
-    to_le_bytes c.joined.result _ c.to-le-bytes.ensures
+    to_le_bytes c.joined.result _ c.to_le_bytes.ensures
     ∙ ap (digits 16) (joined_number a b k lo hi w c.joined.ensures)

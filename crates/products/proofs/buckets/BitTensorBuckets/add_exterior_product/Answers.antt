@@ -8,6 +8,6 @@ returns g c =
     let f = g.L.Level.means in
     record {
       same = refl {a = c.args.self.now.buckets.name};
-      added = c.add-term.ensures;
-      bucketed = λ a b n x y h. bucketed_more a b n _ _ (lent f c.args.self.now.buckets.now) (lent f c.add-term.new.buckets) x y c.add-term.ensures h;
+      added = c.add_term.ensures;
+      bucketed = λ a b n x y h. bucketed_more a b n _ _ (lent f c.args.self.now.buckets.now) (lent f c.add_term.new.buckets) x y c.add_term.ensures h;
     }

@@ -6,6 +6,6 @@ pub returns : goal.returns
 returns g c =
     record {
       same = refl {a = c.args.self.now.buckets.name};
-      empty = c.empty-all.ensures;
-      bucketed = λ a b. bucketed_none a b _ c.empty-all.ensures;
+      empty = c.empty_all.ensures;
+      bucketed = λ a b. bucketed_none a b _ c.empty_all.ensures;
     }

@@ -8,7 +8,7 @@ use Rattle.redundant_level.proofs.masked_byte.MaskedByteLevel.equals.Goals as go
 
 pub returns : goal.returns
 returns c =
-    let s = c.same-byte.ensures in
+    let s = c.same_byte.ensures in
     let x = c.args.self in
     let y = c.args.other in
     let small-x : bit_xor x.share x.mask < 256 = xor_lt 8 x.share x.mask (omega arith) (omega arith) in

@@ -12,6 +12,6 @@ use Rattle.redundant_level.proofs.masked_byte.MaskedByteLevel.to_bytes.Goals as 
 pub returns : goal.returns
 returns c =
     let n = bit_xor c.args.self.share c.args.self.mask in
-    let small : n < 256 = omega (arith, c.byte.ensures, c.byte.type-inv) in
+    let small : n < 256 = omega (arith, c.byte.ensures, c.byte.type_inv) in
     let same : (cut 3 n).number ≡ n = cut_small 3 n small in
     c.first_of_sixteen.ensures ∙ ap (λ b. b ∷ replicate 15 0) (c.byte.ensures ∙ sym same) ∙ sym (sixteen_byte (cut 3 n) (omega arith))

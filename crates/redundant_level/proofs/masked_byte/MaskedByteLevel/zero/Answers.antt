@@ -4,4 +4,4 @@ use Rattle.level.proofs.Elements.{cut_zero}
 use Rattle.redundant_level.proofs.masked_byte.MaskedByteLevel.zero.Goals as goal
 
 pub returns : goal.returns
-returns c = ap (cut 3) c.zero-shares.ensures ∙ cut_zero 3
+returns c = ap (cut 3) c.zero_shares.ensures ∙ cut_zero 3
