@@ -8,7 +8,7 @@ loop-j-init c = zeroes c.args.text.now
 
 pub returns-in_err-bytes : goal.returns-in_err-bytes
 returns-in_err-bytes c =
-    let p = err_from_is_err_and c.from-residual.result c.from-residual.ensures.1 in
+    let p = err_from_is_err_and c.from_residual.result c.from_residual.ensures.1 in
     let e = c.in_err-bytes.ensures in
     rw (p.1, p.2) (omega (arith, e.0), broken c.args.text.now c.loop-j.bytes c.loop-j.j _ c.loop-j.invariant (omega arith) e.0 e.1 e.2 e.3)
 
