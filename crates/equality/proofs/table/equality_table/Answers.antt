@@ -13,8 +13,8 @@ widen-requires g c =
     room_for_more g.L.Level.means _ _ c.args.point.now c.loop-c.c _ _ _ c.loop-c-test.true c.loop-c.auto.c
     (c.loop-c.auto.table ∙ length-set _ _ _ ∙ c.requires) c.loop-c.invariant
 
-pub overflow-mul-half : goal.overflow-mul-half
-overflow-mul-half g c =
+pub overflow_mul-half : goal.overflow_mul-half
+overflow_mul-half g c =
     omega (arith, room_for_more g.L.Level.means _ _ c.args.point.now c.loop-c.c _ _ _ c.loop-c-test.true c.loop-c.auto.c c.requires c.loop-c.invariant)
 
 pub loop-c-preserved : goal.loop-c-preserved

@@ -14,8 +14,8 @@ returns-in_err-variables g c =
     let p = err_from_is_err_and c.from-residual.result c.from-residual.ensures.1 in
     rw (p.1, p.2) (packing_refused m.arithmetic t _ c.as_slice-bits.ensures.value (string_bytes c.args.out.now) _ c.in_err-variables.ensures.refusal)
 
-pub overflow-shl-variables : goal.overflow-shl-variables
-overflow-shl-variables g c =
+pub overflow_shl-variables : goal.overflow_shl-variables
+overflow_shl-variables g c =
     let small : length c.as_slice-bits.result.now ≤ 2 ^ 24 = omega (arith, c.requires, ap length c.as_slice-bits.ensures.value) in
     omega (arith, few _ _ _ c.in_ok-variables.ensures.packs small)
 

@@ -7,8 +7,8 @@ use Rattle.folding.proofs.Folds.{block_inside}
 use Rattle.folding.proofs.Slots.{none_enters, first_enters, later_block}
 use Rattle.folding.proofs.carry.add_entering.Goals as goal
 
-pub overflow-mul-first : goal.overflow-mul-first
-overflow-mul-first g c =
+pub overflow_mul-first : goal.overflow_mul-first
+overflow_mul-first g c =
     let within : c.args.b * c.block_len.result + c.block_len.result ≤ length c.args.values.now =
     block_inside c.args.b (length c.args.equality.now.outer.now) c.block_len.result _ _ c.requires.place c.block_len.ensures c.requires.values in
     search rules

@@ -15,8 +15,8 @@ use Rattle.plain.proofs.batching.slot_sum.Goals as goal
 pub loop-i-init : goal.loop-i-init
 loop-i-init g c = sum_begins _ _ c.zero-sum.ensures
 
-pub overflow-add-slot_start : goal.overflow-add-slot_start
-overflow-add-slot_start g c =
+pub overflow_add-slot_start : goal.overflow_add-slot_start
+overflow_add-slot_start g c =
     let l = length c.args.slot.now in
     omega (arith, count_fits g.L.Level.log (c.args.slot_start + 2 ^ l) c.requires.cells, one_shl l 64 c.requires.short)
 

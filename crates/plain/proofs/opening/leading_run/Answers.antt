@@ -11,8 +11,8 @@ loop-x-init g c = (refl, so_far_none _ _)
 pub extended-address-requires : goal.extended-address-requires
 extended-address-requires g c = extended_fits _ _ _ _ _ (omega (arith, c.loop-x.invariant.0)) c.in-Some.ensures.0 c.loop-x.invariant.1
 
-pub overflow-add-count : goal.overflow-add-count
-overflow-add-count g c = omega (arith, c.loop-x.invariant.0)
+pub overflow_add-count : goal.overflow_add-count
+overflow_add-count g c = omega (arith, c.loop-x.invariant.0)
 
 pub loop-x-preserved : goal.loop-x-preserved
 loop-x-preserved g c =

@@ -3,8 +3,8 @@ use Rattle.std.proofs.lemmas.Nat.{one_shl}
 use Rattle.weights.proofs.Combining.{column_begins}
 use Rattle.weights.proofs.combined.column_at.Goals as goal
 
-pub overflow-sub-len : goal.overflow-sub-len
-overflow-sub-len c =
+pub overflow_sub-len : goal.overflow_sub-len
+overflow_sub-len c =
     let begins : c.args.c * 2 ^ c.args.rows < c.args.len = column_begins c.args.rows c.args.c c.args.len c.requires.1 in
     let fits : c.args.c * 2 ^ c.args.rows < 18446744073709551616 = omega arith in
     omega (arith, mod-eq_of_lt fits)

@@ -3,8 +3,8 @@ use Rattle.folding.proofs.Folds.{block_inside}
 use Rattle.weights.proofs.Settling.{settled_more}
 use Rattle.weights.proofs.settled.settle_blocks.Goals as goal
 
-pub overflow-mul-b : goal.overflow-mul-b
-overflow-mul-b g c =
+pub overflow_mul-b : goal.overflow_mul-b
+overflow_mul-b g c =
     let within : c.loop-b.b * c.block_len-len.result + c.block_len-len.result ≤ length c.args.table.now =
     block_inside c.loop-b.b (length c.args.equality.now.outer.now) c.block_len-len.result _ _ (omega arith) c.block_len-len.ensures c.requires.table in
     search rules
