@@ -39,23 +39,23 @@ module _ {X : Type 0} {k : ℕ} (means : X → Element k) {A : Arithmetic k} (la
     slot_elements : (i : ℕ) → i < 2 ^ length (rest A p view) → lent means values i ≡ in_slot A p view (packed k bits) i
     slot_elements i h =
         let size = size_is means laws outers inners A.unit (rest A p view) opens.factors in
-        let within = slot laws (p view).within in
+        let within = (slot laws p view).within in
         ap (λ xs. lent means xs i) cut ∙ lent_part means elements start (length outers * length inners) i (omega arith)
         ∙ opens.elements_are (start + i) (omega (arith, opens.start_is)) ∙ ap (λ w. packed k bits (w + i)) opens.start_is
 
     pub tensor_opened : (r : Tensor k) → r ≡ tensor (2 ^ length (rest A p view)) (equality A (rest A p view)) (lent means values) → r ≡ opened A p bits
     tensor_opened r made =
-        made ∙ fun_ext (λ u. tensor_same _ _ _ _ slot_elements u ∙ sym (slot laws (p view).whole_tensor (packed k bits) u))
+        made ∙ fun_ext (λ u. tensor_same _ _ _ _ slot_elements u ∙ sym ((slot laws p view).whole_tensor (packed k bits) u))
 
   module _ (q kept : ℕ) (opens : Opens means A p (Some q) bits elements start outers inners) (within : q ≤ length p) (keeps : kept ≡ q - k) where
     pub carry_opened : (r : Tensor k) → r ≡ carry kept (2 ^ length (rest A p (Some q))) (equality A (rest A p (Some q))) (lent means values) → r ≡ opened_carry A p q bits
     carry_opened r made =
         made ∙ fun_ext (λ u. carry_same _ _ _ _ (slot_elements (Some q) opens) kept u
         ∙ ap (λ i. carry i (2 ^ length (rest A p (Some q))) (equality A (rest A p (Some q))) (in_slot A p (Some q) (packed k bits)) u) keeps
-        ∙ sym (stepped_slot laws (p q within).whole_carry (packed k bits) u))
+        ∙ sym ((stepped_slot laws p q within).whole_carry (packed k bits) u))
 
     pub last_opened : (r : Tensor k) → r ≡ last kept (2 ^ length (rest A p (Some q))) (equality A (rest A p (Some q))) (lent means values) → r ≡ opened_last A p q bits
     last_opened r made =
         made ∙ fun_ext (λ u. last_same _ _ _ _ (slot_elements (Some q) opens) kept u
         ∙ ap (λ i. last i (2 ^ length (rest A p (Some q))) (equality A (rest A p (Some q))) (in_slot A p (Some q) (packed k bits)) u) keeps
-        ∙ sym (stepped_slot laws (p q within).whole_last (packed k bits) u))
+        ∙ sym ((stepped_slot laws p q within).whole_last (packed k bits) u))

@@ -30,7 +30,7 @@ kept_rows k q r e = by_test (ltb k q) refl
 module _ {k : ℕ} {A : Arithmetic k} (laws : Laws A) (f : ℕ → Element k) (bits : ℕ → ℕ) (p : Point k) where
   -- the slot has the whole of the tensor
   whole : (view : View) → tensor (slot_count A p view) (equality A (rest A p view)) (in_slot A p view (packed k bits)) ≡ opened A p bits
-  whole view = fun_ext (λ u. sym (slot laws (p view).whole_tensor (packed k bits) u))
+  whole view = fun_ext (λ u. sym ((slot laws p view).whole_tensor (packed k bits) u))
 
   weighted : View → Option (Stepping k) → Element k
   weighted view b =

@@ -55,7 +55,7 @@ rows_few {k} view α s l e h = subst (λ (t : Option (Stepping k)). RowsWithin t
 module _ {k : ℕ} {A : Arithmetic k} (laws : Laws A) (p : Point k) where
   in_slot : (view : View) → named view ≤ length p → named view - k ≤ length (rest A p view)
   in_slot None h = omega arith
-  in_slot (Some q) h = stepped_slot laws (p q h).row_coordinates
+  in_slot (Some q) h = (stepped_slot laws p q h).row_coordinates
 
   pub rows_in_slot : (view : View) (α : Option (Element k)) (s : Option (Stepping k)) (l : ℕ) → s ≡ stepped (kept k view) α → l ≡ length (rest A p view)
       → named view ≤ length p → RowsWithin s l

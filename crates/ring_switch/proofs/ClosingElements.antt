@@ -127,7 +127,7 @@ module _ {k : ℕ} {A : Arithmetic k} (laws : Laws A) where
   unfolding multilinear
   weights_at w slot z e =
       ap (λ l. sum (2 ^ l) (λ i. A.times (equality A z i) (w i))) (sym e)
-      ∙ sum_same (2 ^ length z) _ _ (λ i _. laws .times_comm (equality A z i) (w i))
+      ∙ sum_same (2 ^ length z) _ _ (λ i _. laws.times_comm (equality A z i) (w i))
 
   pub closing_multilinear : (f : ℕ → Element k) (slot : Point k) (b : Option (Stepping k)) → RowsWithin b (length slot)
       → (z : Point k) → length z ≡ length slot → closing_value A f slot b z ≡ multilinear A (weight A f slot b) z

@@ -26,7 +26,7 @@ module _ {k : ℕ} {A : Arithmetic k} (laws : Laws A) where
   weighted : (α x s s' : Element k) (c e : Bool)
       → plus (A.times x s) (plus (A.times α (where_set c (A.times x s'))) (A.times α (A.times α (where_set e (A.times x s)))))
       ≡ A.times x (plus (plus s (where_set c (A.times α s'))) (where_set e (A.times (A.times α α) s)))
-  weighted α x s s' c e = simp (times_where laws, laws .times_plus, laws .times_assoc, times_left_comm laws, plus_assoc)
+  weighted α x s s' c e = simp (times_where laws, laws.times_plus, laws.times_assoc, times_left_comm laws, plus_assoc)
 
   -- α·(y + α·z) + x, for sums x, y and z
   successor_sum : (α : Element k) (n : ℕ) (x y z : ℕ → Element k)
@@ -34,7 +34,7 @@ module _ {k : ℕ} {A : Arithmetic k} (laws : Laws A) where
       ≡ sum n (λ i. plus (x i) (plus (A.times α (y i)) (A.times α (A.times α (z i)))))
   successor_sum α n x y z =
       ap (plus (sum n x))
-      (laws .times_plus α (sum n y) (A.times α (sum n z))
+      (laws.times_plus α (sum n y) (A.times α (sum n z))
       ∙ ap₂ plus (times_sum laws α n y) (ap (A.times α) (times_sum laws α n z) ∙ times_sum laws α n (λ i. A.times α (z i)))
       ∙ sym (sum_plus n (λ i. A.times α (y i)) (λ i. A.times α (A.times α (z i)))))
       ∙ sym (sum_plus n x (λ i. plus (A.times α (y i)) (A.times α (A.times α (z i)))))

@@ -1,6 +1,6 @@
 -- The tensor, the carry and the last over a slot: outside it the equality table is zero.
 use Rattle.std.proofs.Common.{◌≡◌, ℕ, ◌+◌, ◌-◌, ◌%◌, ◌^◌, ◌<◌, ◌≤◌, false, not, eqb, ◌⊎◌, length, Some, ap, ◌∙◌, ap₂, inl, inr, ⊎_elim, arith, length-drop}
-use Rattle.std.proofs.lemmas.Bool.{not_true, eqb-false}
+use Rattle.std.proofs.lemmas.Bool.{not-true, eqb-false}
 use Rattle.level.specs.Element.{Element, zeros}
 use Rattle.level.specs.Laws.{Arithmetic, Laws}
 use Rattle.multilinear.specs.Sums.{where_set, at_bit}
@@ -46,10 +46,10 @@ module _ {k : ℕ} where
     carry_window : (r : ℕ) → s % 2 ^ r ≡ 0 → l % 2 ^ r ≡ 0 → carry r n e t u ≡ carry r l e' (λ i. t (s + i)) u
     unfolding carry
     carry_window r a b =
-        sum_window n s l _ o.within (λ w h out. where_none (not (starts r w)) _ (λ y. outer w h out (not_true (starts r w) y)))
+        sum_window n s l _ o.within (λ w h out. where_none (not (starts r w)) _ (λ y. outer w h out (not-true (starts r w) y)))
         ∙ sum_same l _ _ (λ i h.
         ap (λ m. where_set (not (eqb m 0)) (exterior (e (s + i - 1)) (t (s + i)) u)) (shift_mod s i (2 ^ r) a)
-        ∙ where_same (not (starts r i)) _ _ (λ y. inner i h (not_true (starts r i) y)))
+        ∙ where_same (not (starts r i)) _ _ (λ y. inner i h (not-true (starts r i) y)))
       where
         outer : (w : ℕ) → w < n → (w < s) ⊎ (s + l ≤ w) → starts r w ≡ false → exterior (e (w - 1)) (t w) u ≡ zeros k
         outer w h out y =
@@ -78,7 +78,7 @@ module _ {k : ℕ} {A : Arithmetic k} (laws : Laws A) (p : Point k) where
   slot view =
       let o = slot_window view in
       record {
-        coordinates = length-drop (prefix (A p view).count) (high p) ∙ ap (λ n. n - prefix (A p view).count) (high_length p);
+        coordinates = length-drop ((prefix A p view).count) (high p) ∙ ap (λ n. n - (prefix A p view).count) (high_length p);
         within = o.within;
         inside = o.inside;
         outside = o.outside;
@@ -92,7 +92,7 @@ module _ {k : ℕ} {A : Arithmetic k} (laws : Laws A) (p : Point k) where
 
     start_aligned : slot_start A p (Some q) % 2 ^ (q - k) ≡ 0
     unfolding slot_start
-    start_aligned = pow_multiple (prefix (A p (Some q)).address) (length (rest A p (Some q))) (q - k) rows
+    start_aligned = pow_multiple ((prefix A p (Some q)).address) (length (rest A p (Some q))) (q - k) rows
 
     pub stepped_slot : SteppedSlot A p q
     stepped_slot =

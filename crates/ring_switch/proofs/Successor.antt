@@ -2,7 +2,7 @@
 use Rattle.std.proofs.Common.{◌≡◌, ℕ, ◌+◌, ◌-◌, ◌*◌, ◌^◌, ◌<◌, ◌≤◌, true, false, not, eqb, ltb, length, sym, ap, ◌∙◌, ap₂, ⊎_elim, arith, pow_pos}
 use lib.Arith.{mul_pred}
 use lib.Pow.{ones_lt}
-use Rattle.std.proofs.lemmas.Bool.{not_true, eqb-false, ltb-true, ltb-false, cases_Bool}
+use Rattle.std.proofs.lemmas.Bool.{not-true, eqb-false, ltb-true, ltb-false, cases_Bool}
 use Rattle.level.specs.Element.{width, plus}
 use Rattle.level.specs.Laws.{Arithmetic, Laws}
 use Rattle.level.proofs.Elements.{plus_assoc}
@@ -56,10 +56,10 @@ module _ {k : ℕ} {A : Arithmetic k} (laws : Laws A) (bits : ℕ → ℕ) (bina
   received_inside q g w v l =
       let x = equality A (high p) w in
       let a = shift_mod (w * width k) v (2 ^ q) (pow_multiple w k q g) in
-      laws .times_plus x _ _
+      laws.times_plus x _ _
       ∙ ap₂ plus
       (times_where laws (not (starts q v)) x _
-      ∙ where_same (not (starts q v)) _ _ (λ e. sym (entry_before w v l (starts_not q v (not_true (starts q v) e))))
+      ∙ where_same (not (starts q v)) _ _ (λ e. sym (entry_before w v l (starts_not q v (not-true (starts q v) e))))
       ∙ ap (λ n. where_set (not (eqb n 0)) (equality A p (w * width k + v - 1))) (sym a))
       (times_where laws (ends q v) x _ ∙ ap₂ (λ n y. where_set (eqb n (2 ^ q - 1)) y) (sym a) (sym (cell_entry laws p h w v l)))
 
@@ -81,7 +81,7 @@ module _ {k : ℕ} {A : Arithmetic k} (laws : Laws A) (bits : ℕ → ℕ) (bina
   received_across r w v l =
       let c = w * width k + v in
       let own : where_set (not (eqb v 0)) (equality A p (c - 1)) ≡ A.times (equality A (high p) w) (across A (low p) v) =
-      where_same (not (eqb v 0)) _ _ (λ e. let n = eqb-false v 0 (not_true (eqb v 0) e) in entry_before w v l (omega arith))
+      where_same (not (eqb v 0)) _ _ (λ e. let n = eqb-false v 0 (not-true (eqb v 0) e) in entry_before w v l (omega arith))
       ∙ sym (times_where laws (not (eqb v 0)) (equality A (high p) w) (equality A (low p) (v - 1))) in
       ap₂ plus
       (ap (λ b. where_set (not b) (equality A p (c - 1))) (starts_split r k w v l) ∙ where_not_and (starts r w) (eqb v 0) _
@@ -94,7 +94,7 @@ module _ {k : ℕ} {A : Arithmetic k} (laws : Laws A) (bits : ℕ → ℕ) (bina
       → equality A p (w * width k + 0 - 1) ≡ A.times (equality A (low p) (width k - 1)) (equality A (high p) (w - 1))
   entry_before_first w g =
       let e : w * width k + 0 - 1 ≡ (w - 1) * width k + (width k - 1) = omega (arith, mul_pred g (pow_pos k)) in
-      ap (equality A p) e ∙ cell_entry laws p h (w - 1) (width k - 1) (ones_lt k) ∙ laws .times_comm _ _
+      ap (equality A p) e ∙ cell_entry laws p h (w - 1) (width k - 1) (ones_lt k) ∙ laws.times_comm _ _
 
   -- the part of the carry's first column that element w has, and of the last's last column
   carry_part : (r w : ℕ)
@@ -103,7 +103,7 @@ module _ {k : ℕ} {A : Arithmetic k} (laws : Laws A) (bits : ℕ → ℕ) (bina
   carry_part r w =
       let x = equality A (low p) (width k - 1) in
       ap (at_bit (bits (w * width k + 0)))
-      (where_same (not (starts r w)) _ _ (λ e. entry_before_first w (starts_not r w (not_true (starts r w) e)))
+      (where_same (not (starts r w)) _ _ (λ e. entry_before_first w (starts_not r w (not-true (starts r w) e)))
       ∙ sym (times_where laws (not (starts r w)) x (equality A (high p) (w - 1))))
       ∙ sym (times_at_bit laws (bits (w * width k + 0)) x _)
 
@@ -113,7 +113,7 @@ module _ {k : ℕ} {A : Arithmetic k} (laws : Laws A) (bits : ℕ → ℕ) (bina
   last_part r w =
       let x = equality A (low p) (width k - 1) in
       ap (at_bit (bits (w * width k + (width k - 1))))
-      (ap (where_set (ends r w)) (cell_entry laws p h w (width k - 1) (ones_lt k) ∙ laws .times_comm _ _) ∙ sym (times_where laws (ends r w) x (equality A (high p) w)))
+      (ap (where_set (ends r w)) (cell_entry laws p h w (width k - 1) (ones_lt k) ∙ laws.times_comm _ _) ∙ sym (times_where laws (ends r w) x (equality A (high p) w)))
       ∙ sym (times_at_bit laws (bits (w * width k + (width k - 1))) x _)
 
   -- what the cells of one element receive
@@ -140,7 +140,7 @@ module _ {k : ℕ} {A : Arithmetic k} (laws : Laws A) (bits : ℕ → ℕ) (bina
       let top = equality A (low p) (width k - 1) in
       let e : r + k ≡ q = omega arith in
       ap₂ plus (weighed_columns laws bits binary n (equality A (high p)) (across A (low p)))
-      (laws .times_plus top _ _
+      (laws.times_plus top _ _
       ∙ ap₂ plus
       (ap (A.times top) (carry_column bits binary r n (equality A (high p)) 0 (pow_pos k)) ∙ times_sum laws top n _)
       (ap (A.times top) (last_column bits binary r n (equality A (high p)) (width k - 1) (ones_lt k)) ∙ times_sum laws top n _)
