@@ -11,7 +11,7 @@ returns-in_err-rest c =
     let line = c.args.line.now in
     let word = c.args.word.now in
     let h = strip_prefix_is Decides-eqb line word c.strip_prefix.result c.strip_prefix.ensures.cases in
-    rw c.from-residual.ensures
+    rw c.from_residual.ensures
     (sym (after_none word line (MatchOption-at_none ((rest : List ℕ) → line ≡ word ++ rest → ⊥) (λ (x : Bor (List ℕ)). line ≡ word ++ x.now) c.in_err-rest.was h)))
 
 pub returns : goal.returns

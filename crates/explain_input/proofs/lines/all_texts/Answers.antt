@@ -9,7 +9,7 @@ loop-rest-preserved-in_ok-push c =
 
 pub loop-rest-preserved : goal.loop-rest-preserved
 loop-rest-preserved c =
-    texts_pass c.args.key _ _ _ _ c.split_line.ensures.first (map (λ x. x.now) (vec_items c.loop-rest.found)) c.loop-rest.invariant c.in-default.ensures
+    texts_pass c.args.key _ _ _ _ c.split_line.ensures.first (map (λ x. x.now) (vec_items c.loop-rest.found)) c.loop-rest.invariant c.in_default.ensures
 
 pub returns : goal.returns
 returns c = texts_end c.args.key _ (map (λ x. x.now) (vec_items c.loop-rest.found)) c.loop-rest.rest.now c.loop-rest-test.ensures c.loop-rest.invariant

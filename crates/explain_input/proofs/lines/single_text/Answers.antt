@@ -12,7 +12,7 @@ loop-rest-preserved-else-is_some c =
 
 pub loop-rest-preserved : goal.loop-rest-preserved
 loop-rest-preserved c =
-    texts_pass c.args.key _ _ _ _ c.split_line.ensures.first (option_to_list (option_map (λ x. x.now) c.loop-rest.found)) c.loop-rest.invariant c.in-default.ensures
+    texts_pass c.args.key _ _ _ _ c.split_line.ensures.first (option_to_list (option_map (λ x. x.now) c.loop-rest.found)) c.loop-rest.invariant c.in_default.ensures
 
 pub returns : goal.returns
 returns c = texts_end c.args.key _ (option_to_list (option_map (λ x. x.now) c.loop-rest.found)) c.loop-rest.rest.now c.loop-rest-test.ensures c.loop-rest.invariant
