@@ -18,6 +18,7 @@ ROOT = "crates"
 TABLE = {"bit-xor": "bit_distributes"}
 NAME = r"[^\s:(){}.,;«»\"`]+"
 DECLARED = re.compile(r"^((?:(?:abbrev|unfoldable|pub|data|record) )*)(" + NAME + r")((?: (?:\([^()]*(?:\([^()]*\)[^()]*)*\)|\{[^{}]*\}))*) :(?: |$)(.*)")
+KEYWORD = re.compile(r"^ *(?:(?:abbrev|unfoldable|pub|data|record) )*(?:abbrev|unfoldable|data|record)(?: pub)? (" + NAME + r")(?= |$)")
 FIELD = re.compile(r"^ +(?:pub )?(" + NAME + r") : ")
 WORDS = {"let", "in", "use", "mod", "open", "elim", "where"}
 
@@ -52,7 +53,12 @@ def declared():
     for p in texts(".antt"):
         for l in read(p).splitlines():
             m = DECLARED.match(l)
-            if m:
+            k = KEYWORD.match(l)
+            if k:
+                n = k.group(1)
+                if re.search(r": goal\." + re.escape(n) + r"$", l):
+                    continue
+            elif m:
                 n, rest = m.group(2), m.group(4)
                 if re.match(r"goal\." + re.escape(n) + r"$", rest.strip()):
                     continue

@@ -110,14 +110,14 @@ module _ {k : ℕ} where
   }
 
   -- The sums of the byte positions below n are in place, and every other place is as it was.
-  pub record Completed-below (old new : ℕ → Element k) (n : ℕ) : Type 0 where
+  pub record CompletedBelow (old new : ℕ → Element k) (n : ℕ) : Type 0 where
     pub entries : (j s : ℕ) → j < n → s < 256 → new (256 * j + s) ≡ byte_sum (held old) j s
     pub rest : (i : ℕ) → 256 * n ≤ i → new i ≡ old i
 
-  pub completed_none : (old : ℕ → Element k) → Completed-below old old 0
+  pub completed_none : (old : ℕ → Element k) → CompletedBelow old old 0
   completed_none old = record { entries = λ j s h _. absurd (omega arith); rest = λ i _. refl }
 
-  pub completed_more : (old new next : ℕ → Element k) (n : ℕ) → Completed-below old new n → Completed new next n → Completed-below old next (n + 1)
+  pub completed_more : (old new next : ℕ → Element k) (n : ℕ) → CompletedBelow old new n → Completed new next n → CompletedBelow old next (n + 1)
   completed_more old new next n b c = record {
     entries = λ j s h l. ⊎_elim
         (λ e. ap (λ i. next (256 * i + s)) e ∙ c.entry s l ∙ byte_same (held new) (held old) n s weights ∙ ap (λ i. byte_sum (held old) i s) (sym e))
@@ -128,7 +128,7 @@ module _ {k : ℕ} where
       weights : (u : ℕ) → u < 8 → held new (8 * n + u) ≡ held old (8 * n + u)
       weights u h = b.rest (lone (8 * n + u)) (omega (arith, lone_at n u h))
 
-  pub completed_all : (old new : ℕ → Element k) (n : ℕ) → n ≡ num_bytes k → Completed-below old new n → Tabulated (held old) new
+  pub completed_all : (old new : ℕ → Element k) (n : ℕ) → n ≡ num_bytes k → CompletedBelow old new n → Tabulated (held old) new
   completed_all old new n e b = record { entry = λ j s h l. b.entries j s (rw e h) l }
 
   -- The weights f of the coordinates below n are at their places.

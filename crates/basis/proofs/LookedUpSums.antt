@@ -48,23 +48,23 @@ module _ {k : ℕ} where
 
   -- a loop that looks up the bytes one by one
   module _ (tables : ℕ → Element k) (bytes : List ℕ) where
-    abbrev pub looked-below : ℕ → Element k
-    looked-below n = sum n (λ j. tables (256 * j + get_or bytes j 0))
+    abbrev pub looked_below : ℕ → Element k
+    looked_below n = sum n (λ j. tables (256 * j + get_or bytes j 0))
 
-    pub looked_none : (s : Element k) → s ≡ zeros k → s ≡ looked-below 0
+    pub looked_none : (s : Element k) → s ≡ zeros k → s ≡ looked_below 0
     unfolding sum
     looked_none s e = e
 
-    pub looked_more : (n place : ℕ) (s x r : Element k) → s ≡ looked-below n → place ≡ 256 * n + get_or bytes n 0 → x ≡ tables place → r ≡ plus s x
-        → r ≡ looked-below (n + 1)
+    pub looked_more : (n place : ℕ) (s x r : Element k) → s ≡ looked_below n → place ≡ 256 * n + get_or bytes n 0 → x ≡ tables place → r ≡ plus s x
+        → r ≡ looked_below (n + 1)
     unfolding sum
-    looked_more n place s x r e at read made = made ∙ ap₂ plus e (read ∙ ap tables at) ∙ ap looked-below (sym (add-one n))
+    looked_more n place s x r e at read made = made ∙ ap₂ plus e (read ∙ ap tables at) ∙ ap looked_below (sym (add-one n))
 
-    pub looked_all : (x s : Element k) (n : ℕ) → k ≤ 7 → n ≡ num_bytes k → bytes ≡ sixteen x → s ≡ looked-below n → s ≡ looked_up tables x
+    pub looked_all : (x s : Element k) (n : ℕ) → k ≤ 7 → n ≡ num_bytes k → bytes ≡ sixteen x → s ≡ looked_below n → s ≡ looked_up tables x
     unfolding looked_up sixteen
     looked_all x s n narrow all shown e =
         let m : 2 ^ k ≤ 128 = pow_mono narrow in
-        e ∙ ap looked-below all
+        e ∙ ap looked_below all
         ∙ sum_same (num_bytes k) _ _ (λ j h.
         ap (λ b. tables (256 * j + b)) (ap (λ bs. get_or bs j 0) shown ∙ digit_at 16 x.number j (omega arith)))
 

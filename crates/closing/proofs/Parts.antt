@@ -13,23 +13,23 @@ use Rattle.tensor_rows.proofs.Tensors.{nothing_add}
 module _ {X : Type 0} {k : ℕ} (means : X → Element k) (A : Arithmetic k) where
   -- the product of the coordinates from i on
   module _ (xs : List X) where
-    unfoldable pub product-from : ℕ → Element k
-    product-from i = product A (drop i (map means xs))
+    unfoldable pub product_from : ℕ → Element k
+    product_from i = product A (drop i (map means xs))
 
-    pub product_none : (i : ℕ) (s : Element k) → length xs ≤ i → s ≡ A.unit → s ≡ product-from i
-    unfolding product-from product
+    pub product_none : (i : ℕ) (s : Element k) → length xs ≤ i → s ≡ A.unit → s ≡ product_from i
+    unfolding product_from product
     product_none i s h e = e ∙ sym (ap (product A) (none_left means xs i h))
 
     pub product_more : (i : ℕ) (x : X) (s r : Element k) → 0 < i → i ≤ length xs → x ≡ get_or xs (i - 1) x → r ≡ A.times (means x) s
-        → s ≡ product-from i → r ≡ product-from (i - 1)
-    unfolding product-from product
+        → s ≡ product_from i → r ≡ product_from (i - 1)
+    unfolding product_from product
     product_more i x s r some h read made e =
         let back : i ≡ i - 1 + 1 = omega arith in
-        made ∙ ap (A.times (means x)) (e ∙ ap product-from back) ∙ sym (ap (product A) (left means xs (i - 1) x (omega arith) read))
+        made ∙ ap (A.times (means x)) (e ∙ ap product_from back) ∙ sym (ap (product A) (left means xs (i - 1) x (omega arith) read))
 
-    pub product_all : (i : ℕ) (s : Element k) → i ≤ 0 → s ≡ product-from i → s ≡ product A (map means xs)
-    unfolding product-from
-    product_all i s h e = let none : i ≡ 0 = omega arith in e ∙ ap product-from none
+    pub product_all : (i : ℕ) (s : Element k) → i ≤ 0 → s ≡ product_from i → s ≡ product A (map means xs)
+    unfolding product_from
+    product_all i s h e = let none : i ≡ 0 = omega arith in e ∙ ap product_from none
 
   -- the parts of a point, where another has as many coordinates
   before_rows : (r : ℕ) (ws xs zs : List X) → length xs ≡ length ws → zs ≡ take (length xs - r) xs

@@ -39,16 +39,16 @@ module _ {k : ℕ} (A : Arithmetic k) where
       ap₂ (λ a b. cond a 0 (cond b 1 2)) (not_zero x z e ne) (ap (λ y. eqb x.number y.number) (sym u) ∙ number_differs x o other)
 
   -- The first c coordinates of p are zeros and ones that spell the address a, and what is left gives the rest of the run.
-  pub record So-far (p : Point k) (c a : ℕ) : Type 0 where
+  pub record SoFar (p : Point k) (c a : ℕ) : Type 0 where
     pub counted : (run A p).count ≡ c + (run A (drop c p)).count
     pub spelt : (run A p).address ≡ a * 2 ^ (run A (drop c p)).count + (run A (drop c p)).address
     pub bounded : a < 2 ^ c
 
-  pub so_far_none : (p : Point k) → So-far p 0 0
+  pub so_far_none : (p : Point k) → SoFar p 0 0
   so_far_none p = record { counted = omega arith; spelt = omega arith; bounded = omega arith }
 
   -- an address of fewer than 64 bits has room for one more
-  pub extended_fits : (p : Point k) (c a b : ℕ) → c < 64 → b < 2 → So-far p c a → 2 * a + b < 2 ^ 64
+  pub extended_fits : (p : Point k) (c a b : ℕ) → c < 64 → b < 2 → SoFar p c a → 2 * a + b < 2 ^ 64
   extended_fits p c a b h bit s =
       let room : 2 ^ suc c ≤ 2 ^ 64 = pow_mono h in
       omega (arith, s.bounded, pow-suc 2 c)
@@ -67,7 +67,7 @@ module _ {k : ℕ} (A : Arithmetic k) where
   lead_address (suc (suc b)) r h = absurd (omega (arith, h))
 
   pub so_far_more : (p : Point k) (c a b a' : ℕ) (x : Element k) → c < length p → x ≡ get_or p c (zeros k)
-      → b < 2 → selects A x ≡ b → a' ≡ 2 * a + b → So-far p c a → So-far p (c + 1) a'
+      → b < 2 → selects A x ≡ b → a' ≡ 2 * a + b → SoFar p c a → SoFar p (c + 1) a'
   unfolding run
   so_far_more p c a b a' x h read bit sel made s =
       let r = run A (drop (c + 1) p) in
@@ -86,7 +86,7 @@ module _ {k : ℕ} (A : Arithmetic k) where
       }
 
   -- nothing is left, or a coordinate that is neither zero nor one
-  ended : (p : Point k) (c a : ℕ) → run A (drop c p) ≡ record { count = 0; address = 0 } → So-far p c a
+  ended : (p : Point k) (c a : ℕ) → run A (drop c p) ≡ record { count = 0; address = 0 } → SoFar p c a
       → (c ≡ (run A p).count) × (a ≡ (run A p).address)
   ended p c a e s =
       let n = ap (λ r. r.count) e in
@@ -94,12 +94,12 @@ module _ {k : ℕ} (A : Arithmetic k) where
       let t : a * 2 ^ (run A (drop c p)).count ≡ a * 1 = ap (λ i. a * 2 ^ i) n in
       (omega (arith, s.counted, n), omega (arith, s.spelt, t, d))
 
-  pub so_far_all : (p : Point k) (c a : ℕ) → length p ≤ c → So-far p c a → (c ≡ (run A p).count) × (a ≡ (run A p).address)
+  pub so_far_all : (p : Point k) (c a : ℕ) → length p ≤ c → SoFar p c a → (c ≡ (run A p).count) × (a ≡ (run A p).address)
   unfolding run
   so_far_all p c a h s = ended p c a (ap (run A) (drop_all c p h)) s
 
   pub so_far_stops : (p : Point k) (c a : ℕ) (x : Element k) → c < length p → x ≡ get_or p c (zeros k) → selects A x ≡ 2
-      → So-far p c a → (c ≡ (run A p).count) × (a ≡ (run A p).address)
+      → SoFar p c a → (c ≡ (run A p).count) × (a ≡ (run A p).address)
   unfolding run lead
   so_far_stops p c a x h read sel s =
       let r = run A (drop (c + 1) p) in

@@ -49,21 +49,21 @@ module _ {X : Type 0} {k : ℕ} (means : X → Element k) where
 
   module _ (A : Arithmetic k) (xs ys : List X) where
     -- the factors of the coordinates from i on, on t
-    unfoldable pub factors-from : ℕ → Tensor k → Tensor k
-    factors-from i t = equality_factors A (drop i (map means xs)) (drop i (map means ys)) t
+    unfoldable pub factors_from : ℕ → Tensor k → Tensor k
+    factors_from i t = equality_factors A (drop i (map means xs)) (drop i (map means ys)) t
 
-    pub factors_none : (t : Tensor k) → factors-from 0 t ≡ equality_factors A (map means xs) (map means ys) t
-    unfolding factors-from
+    pub factors_none : (t : Tensor k) → factors_from 0 t ≡ equality_factors A (map means xs) (map means ys) t
+    unfolding factors_from
     factors_none t = refl
 
     pub factors_more : (t s r : Tensor k) (i : ℕ) (x y : X) → i < length xs → i < length ys → x ≡ get_or xs i x → y ≡ get_or ys i y
-        → s ≡ equality_factor A (means x) (means y) t → factors-from i t ≡ r → factors-from (i + 1) s ≡ r
-    unfolding factors-from equality_factors
+        → s ≡ equality_factor A (means x) (means y) t → factors_from i t ≡ r → factors_from (i + 1) s ≡ r
+    unfolding factors_from equality_factors
     factors_more t s r i x y h l first second made e =
-        ap (factors-from (i + 1)) made ∙ sym (ap₂ (λ p q. equality_factors A p q t) (left xs i x h first) (left ys i y l second)) ∙ e
+        ap (factors_from (i + 1)) made ∙ sym (ap₂ (λ p q. equality_factors A p q t) (left xs i x h first) (left ys i y l second)) ∙ e
 
-    pub factors_all : (t r : Tensor k) (i : ℕ) → length xs ≤ i → factors-from i t ≡ r → t ≡ r
-    unfolding factors-from equality_factors
+    pub factors_all : (t r : Tensor k) (i : ℕ) → length xs ≤ i → factors_from i t ≡ r → t ≡ r
+    unfolding factors_from equality_factors
     factors_all t r i h e = sym (ap (λ p. equality_factors A p (drop i (map means ys)) t) (none_left xs i h)) ∙ e
 
     -- the successor element and the legs of the carry, of the coordinates from i on

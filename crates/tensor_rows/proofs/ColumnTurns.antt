@@ -26,26 +26,26 @@ zero_row t x y z none e =
 module _ {X : Type 0} {k : ℕ} (means : X → Element k) where
   -- the scaled rows of the tensor ys, the first i of them, added to t
   module _ (A : Arithmetic k) (a : Element k) (t : Tensor k) (ys : List X) where
-    unfoldable pub rows-added : ℕ → Tensor k
-    rows-added i v = plus (t v) (sum i (λ j. exterior (A.times a (basis k j)) (lent means ys j) v))
+    unfoldable pub rows_added : ℕ → Tensor k
+    rows_added i v = plus (t v) (sum i (λ j. exterior (A.times a (basis k j)) (lent means ys j) v))
 
-    pub rows_none : t ≡ rows-added 0
-    unfolding rows-added sum
+    pub rows_none : t ≡ rows_added 0
+    unfolding rows_added sum
     rows_none = fun_ext (λ v. sym (plus_zeros (t v)))
 
     pub rows_more : (i : ℕ) (y : X) (s r : Tensor k) → i < length ys → y ≡ get_or ys i y
-        → r ≡ add s (exterior (A.times a (basis k i)) (means y)) → s ≡ rows-added i → r ≡ rows-added (i + 1)
-    unfolding rows-added sum add
+        → r ≡ add s (exterior (A.times a (basis k i)) (means y)) → s ≡ rows_added i → r ≡ rows_added (i + 1)
+    unfolding rows_added sum add
     rows_more i y s r h read made e =
         made ∙ ap₂ (λ p w v. plus (p v) (exterior (A.times a (basis k i)) w v)) e (lent_read means ys i y h read)
-        ∙ fun_ext (λ v. plus_assoc _ _ _) ∙ ap rows-added (sym (add-one i))
+        ∙ fun_ext (λ v. plus_assoc _ _ _) ∙ ap rows_added (sym (add-one i))
 
-    pub rows_all : Laws A → (i : ℕ) (s : Tensor k) → length ys ≡ width k → i ≤ length ys → length ys ≤ i → s ≡ rows-added i
+    pub rows_all : Laws A → (i : ℕ) (s : Tensor k) → length ys ≡ width k → i ≤ length ys → length ys ≤ i → s ≡ rows_added i
         → s ≡ add t (scale_columns A a (lent means ys))
-    unfolding rows-added add
+    unfolding rows_added add
     rows_all laws i s wide below above e =
         let all : i ≡ width k = omega arith in
-        e ∙ ap rows-added all ∙ fun_ext (λ v. ap (plus (t v)) (sym (scale_columns_rows laws a (lent means ys) v)))
+        e ∙ ap rows_added all ∙ fun_ext (λ v. ap (plus (t v)) (sym (scale_columns_rows laws a (lent means ys) v)))
 
   -- columns scaled through a scratch that held nothing
   scaled_from_nothing : (A : Arithmetic k) (a : Element k) (t : Tensor k) (s r : List X) → lent means s ≡ nothing

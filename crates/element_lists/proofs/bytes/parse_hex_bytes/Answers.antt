@@ -19,7 +19,7 @@ returns-in-Err c =
 pub loop-j-preserved : goal.loop-j-preserved
 loop-j-preserved c =
     let small : c.in-Ok.byte < 256 = search rules in
-    front_more c.args.text.now (vec_items c.loop-j.bytes) _ c.loop-j.j _ (omega arith) small c.loop-j.invariant c.in-Ok.ensures c.in_ok-push.ensures.items
+    front_more c.args.text.now (vec_items c.loop-j.bytes) _ c.loop-j.j _ (omega arith) small c.loop-j.invariant c.in-Ok.ensures c.in_ok-push-in-Ok.ensures.items
 
 pub returns : goal.returns
 returns c = front_all c.args.text.now (vec_items c.loop-j.bytes) c.loop-j.j (omega arith) c.loop-j.invariant

@@ -6,8 +6,8 @@ use Rattle.ring_switch.proofs.SlotPrefix.{high_length, prefix_selected}
 use Rattle.plain.proofs.Prefixes.{limit_within, prefix_is_run}
 use Rattle.plain.proofs.opening.fixed_prefix.Goals as goal
 
-pub slice-bounds-leading_run-end : goal.slice-bounds-leading_run-end
-slice-bounds-leading_run-end g c =
+pub slice_bounds-leading_run-end : goal.slice_bounds-leading_run-end
+slice_bounds-leading_run-end g c =
     let xs = c.args.point.now in
     omega (arith, length-take c.prefix_limit.result xs, limit_within g.L.Level.log (length xs) c.args.view, c.prefix_limit.ensures)
 

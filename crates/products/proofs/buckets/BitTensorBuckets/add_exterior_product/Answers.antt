@@ -7,7 +7,7 @@ pub returns : goal.returns
 returns g c =
     let f = g.L.Level.means in
     record {
-      same = refl {a = c.args.self.now.buckets.name};
+      same = refl {a = c.args.self.now.buckets.ghost_name};
       added = c.add_term.ensures;
       bucketed = λ a b n x y h. bucketed_more a b n _ _ (lent f c.args.self.now.buckets.now) (lent f c.add_term.new.buckets) x y c.add_term.ensures h;
     }

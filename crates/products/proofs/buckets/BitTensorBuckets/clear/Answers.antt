@@ -5,7 +5,7 @@ use Rattle.products.proofs.buckets.BitTensorBuckets.clear.Goals as goal
 pub returns : goal.returns
 returns g c =
     record {
-      same = refl {a = c.args.self.now.buckets.name};
+      same = refl {a = c.args.self.now.buckets.ghost_name};
       empty = c.empty_all.ensures;
       bucketed = λ a b. bucketed_none a b _ c.empty_all.ensures;
     }
