@@ -35,12 +35,12 @@ returns-after-loop-x g c =
     let r = so_far_all m.arithmetic (map m.means xs) _ _ (omega (arith, length-map xs m.means, inv.0, c.loop-x-test.false)) inv.1 in
     record { count = r.0; address = r.1 }
 
-pub returns-in-default : goal.returns-in-default
-returns-in-default g c =
+pub returns-in_default : goal.returns-in_default
+returns-in_default g c =
     let m = g.L.Level in
     let xs = c.args.point.now in
     let inv = c.loop-x.invariant in
     let read = means_at m.means xs c.loop-x.x-index _ (zeros m.log) c.loop-x-test.true c.x-item.is in
     let r = so_far_stops m.arithmetic (map m.means xs) c.loop-x.count _ _ (omega (arith, length-map xs m.means, inv.0, c.loop-x-test.true))
-    (read ∙ ap (λ i. get_or (map m.means xs) i (zeros m.log)) (sym inv.0)) c.in-default.ensures inv.1 in
+    (read ∙ ap (λ i. get_or (map m.means xs) i (zeros m.log)) (sym inv.0)) c.in_default.ensures inv.1 in
     record { count = r.0; address = r.1 }

@@ -18,11 +18,11 @@ returns-in-Some g c =
       scratch = c.settled_weights.ensures.scratch;
     }
 
-pub returns-in-default : goal.returns-in-default
-returns-in-default g c =
+pub returns-in_default : goal.returns-in_default
+returns-in_default g c =
     let m = g.L.Level in
     record {
       weights =
-          λ p f i h. weighed_plain m.arithmetic (lent m.means c.args.eq_batch.now) p _ i _ (ap (steps m.means) c.in-default.is) (c.settled_weights.ensures.weights _ p f i h);
+          λ p f i h. weighed_plain m.arithmetic (lent m.means c.args.eq_batch.now) p _ i _ (ap (steps m.means) c.in_default.is) (c.settled_weights.ensures.weights _ p f i h);
       scratch = c.settled_weights.ensures.scratch;
     }
