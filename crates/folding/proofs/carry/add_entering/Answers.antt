@@ -13,8 +13,8 @@ overflow_mul-first g c =
     block_inside c.args.b (length c.args.equality.now.outer.now) c.block_len.result _ _ c.requires.place c.block_len.ensures c.requires.values in
     search rules
 
-pub offset-bounds-values-first : goal.offset-bounds-values-first
-offset-bounds-values-first g c =
+pub offset_bounds-values-first : goal.offset_bounds-values-first
+offset_bounds-values-first g c =
     omega (arith, block_inside c.args.b (length c.args.equality.now.outer.now) c.block_len.result _ _ c.requires.place c.block_len.ensures c.requires.values)
 
 pub bounds-values-first : goal.bounds-values-first
