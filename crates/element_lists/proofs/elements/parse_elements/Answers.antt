@@ -34,7 +34,7 @@ element_at-requires g c = (
 
 pub returns-in_err-element_at : goal.returns-in_err-element_at
 returns-in_err-element_at g c =
-    let p = err_from_is_err_and c.from-residual.result c.from-residual.ensures.1 in
+    let p = err_from_is_err_and c.from_residual.result c.from_residual.ensures.1 in
     rw (p.1, p.2) (bad_text g.L.Level.log c.args.text.now c.loop-i.i _ c.in_err-element_at.ensures)
 
 pub loop-i-preserved : goal.loop-i-preserved

@@ -26,14 +26,14 @@ pub returns-in_err-read_elements : goal.returns-in_err-read_elements
 returns-in_err-read_elements g c =
     let texts = c.args.texts.now in
     let i = c.loop-text.text-index in
-    let p = err_from_is_err_and c.from-residual.result c.from-residual.ensures.1 in
+    let p = err_from_is_err_and c.from_residual.result c.from_residual.ensures.1 in
     rw (p.1, p.2) (bad_place g.L.Level.log Closing (map (λ x. x.now) texts) _ _ i (omega (arith, length-map texts (λ x. x.now), c.loop-text-test.true))
     (get_or-map (λ x. x.now) texts i _ [] c.loop-text-test.true) c.in_err-read_elements.ensures)
 
 pub returns-in_err-push : goal.returns-in_err-push
 returns-in_err-push g c =
     let i = c.loop-text.text-index in
-    let p = err_from_is_err_and c.from-residual-in_err-push.result c.from-residual-in_err-push.ensures.1 in
+    let p = err_from_is_err_and c.from_residual-in_err-push.result c.from_residual-in_err-push.ensures.1 in
     rw (p.1, p.2) (i, omega (arith, length-map c.args.texts.now (λ x. x.now), c.loop-text-test.true), tt)
 
 pub returns : goal.returns

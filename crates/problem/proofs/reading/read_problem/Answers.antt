@@ -9,27 +9,27 @@ returns-then-closes_unbatched g c = inl (refl, sym c.if-closes_unbatched.ensures
 
 pub returns-in_err-bits : goal.returns-in_err-bits
 returns-in_err-bits g c =
-    let p = err_from_is_err_and c.from-residual.result c.from-residual.ensures.1 in
+    let p = err_from_is_err_and c.from_residual.result c.from_residual.ensures.1 in
     rw (p.1, p.2) (inr (key.Bits, (0, lit< tt, c.in_err-bits.ensures)))
 
 pub returns-in_err-point : goal.returns-in_err-point
 returns-in_err-point g c =
-    let p = err_from_is_err_and c.from-residual-in_err-point.result c.from-residual-in_err-point.ensures.1 in
+    let p = err_from_is_err_and c.from_residual-in_err-point.result c.from_residual-in_err-point.ensures.1 in
     rw (p.1, p.2) (inr (key.Point, (0, lit< tt, c.in_err-point.ensures)))
 
 pub returns-in_err-batching : goal.returns-in_err-batching
 returns-in_err-batching g c =
-    let p = err_from_is_err_and c.from-residual-in_err-batching.result c.from-residual-in_err-batching.ensures.1 in
+    let p = err_from_is_err_and c.from_residual-in_err-batching.result c.from_residual-in_err-batching.ensures.1 in
     rw (p.1, p.2) (inr (key.Batching, c.in_err-batching.ensures))
 
 pub returns-in_err-challenge : goal.returns-in_err-challenge
 returns-in_err-challenge g c =
-    let p = err_from_is_err_and c.from-residual-in_err-challenge.result c.from-residual-in_err-challenge.ensures.1 in
+    let p = err_from_is_err_and c.from_residual-in_err-challenge.result c.from_residual-in_err-challenge.ensures.1 in
     rw (p.1, p.2) (inr (key.Challenge, c.in_err-challenge.ensures))
 
 pub returns-in_err-closings : goal.returns-in_err-closings
 returns-in_err-closings g c =
-    let p = err_from_is_err_and c.from-residual-in_err-closings.result c.from-residual-in_err-closings.ensures.1 in
+    let p = err_from_is_err_and c.from_residual-in_err-closings.result c.from_residual-in_err-closings.ensures.1 in
     rw (p.1, p.2) (inr (
       key.Closing,
       subst (λ (l : List (Bor (List ℕ))). BadAmong g.L.Level.log key.Closing (map (λ x. x.now) l) c.in_err-closings.field-0.0)
