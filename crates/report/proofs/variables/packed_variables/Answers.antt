@@ -7,5 +7,5 @@ ilog2-requires g c = some _ _ (packable _ _ c.in_ok-check_packing.ensures) _ c.p
 pub returns : goal.returns
 returns g c = record {
   refusal = c.in_ok-check_packing.ensures;
-  packs = packs _ _ (packable _ _ c.in_ok-check_packing.ensures) _ _ c.packed_elements.ensures c.ilog2.ensures.power_le c.ilog2.ensures.next-power-gt;
+  packs = packs _ _ (packable _ _ c.in_ok-check_packing.ensures) _ _ c.packed_elements.ensures c.ilog2.ensures.power_le c.ilog2.ensures.next_power_gt;
 }
