@@ -15,7 +15,7 @@ returns-in_err-batched g c =
     let m = g.L.Level in
     let t = task_of m.means c.args.problem.now in
     let b = c.args.batching.now in
-    let p = err_from_is_err_and c.from-residual.result c.from-residual.ensures.1 in
+    let p = err_from_is_err_and c.from_residual.result c.from_residual.ensures.1 in
     rw (p.1, p.2) (batching_refused m.arithmetic t _ c.as_slice-bits.ensures.value (string_bytes c.args.out.now) _ (ap (map m.means) c.as_slice-point.ensures.value)
     (map m.means b) (length b) (sym (length-map b m.means)) _ (some_mapped m.means c.args.problem.now.challenge) _ c.in_err-batched.ensures.refusal)
 

@@ -11,20 +11,20 @@ use Rattle.report.specs.Report.{Reported, batched_text, opened_text}
 use Rattle.report.proofs.Reporting.{opening_refused, opening_passed}
 use Rattle.explanation.proofs.report.opened_lines.Given as given
 use Rattle.explanation.proofs.report.opened_lines.Goals as goal
-use Rattle.explanation.proofs.report.opened_lines.Goals.{In-ok-opening_lines, at·returns-in-Some, at·returns-in-None}
+use Rattle.explanation.proofs.report.opened_lines.Goals.{In_ok-opening_lines}
 
 pub returns-in_err-opening : goal.returns-in_err-opening
 returns-in_err-opening g c =
     let m = g.L.Level in
     let t = task_of m.means c.args.problem.now in
     let points = c.as_slice-point.ensures.value in
-    let p = err_from_is_err_and c.from-residual.result c.from-residual.ensures.1 in
+    let p = err_from_is_err_and c.from_residual.result c.from_residual.ensures.1 in
     rw (p.1, p.2) (opening_refused m.arithmetic t _ c.as_slice-bits.ensures.value (string_bytes c.args.out.now) _ (ap (map m.means) points)
     c.args.variables (length c.as_slice-point.result.now) c.requires.packed (ap length points ∙ sym (length-map (vec_items c.args.problem.now.point) m.means)) _
     c.in_err-opening.ensures.refusal)
 
 -- what is written of the opening, and the text of the batching
-passed : (g : given.Over) (c : In-ok-opening_lines g)
+passed : (g : given.Over) (c : In_ok-opening_lines g)
     → string_bytes c.opening_lines.new.out ++ batched_text g.L.Level.arithmetic (task_of g.L.Level.means c.args.problem.now) (option_map (λ v. map g.L.Level.means (vec_items v)) c.args.problem.now.batching)
     ≡ string_bytes c.args.out.now ++ opened_text g.L.Level.arithmetic (task_of g.L.Level.means c.args.problem.now)
 passed g c =
@@ -44,7 +44,7 @@ returns-in-Some g c =
     subst (Reported c.batched_lines.result (string_bytes c.batched_lines.new.out))
     (ap (λ l. string_bytes c.opening_lines.new.out ++ batched_text m.arithmetic t (Some (map m.means l))) c.as_slice.ensures.value
     ∙ ap (λ (o : Option (Vec g.row.L.Denot Global)). string_bytes c.opening_lines.new.out ++ batched_text m.arithmetic t (option_map points o)) (sym c.in-Some.is)
-    ∙ passed g (at·returns-in-Some g c).In-ok-opening_lines)
+    ∙ passed g (goal.at.returns-in-Some g c).In_ok-opening_lines)
     c.batched_lines.ensures
 
 pub returns-in-None : goal.returns-in-None
@@ -55,4 +55,4 @@ returns-in-None g c =
     let points : Vec g.row.L.Denot Global → Point m.log = λ v. map m.means (vec_items v) in
     sym (append-nil (string_bytes c.opening_lines.new.out))
     ∙ ap (λ (o : Option (Vec g.row.L.Denot Global)). string_bytes c.opening_lines.new.out ++ batched_text m.arithmetic t (option_map points o)) (sym c.in-None.is)
-    ∙ passed g (at·returns-in-None g c).In-ok-opening_lines
+    ∙ passed g (goal.at.returns-in-None g c).In_ok-opening_lines

@@ -20,8 +20,8 @@ slot_sum-initial-requires g c =
     record {
       narrow = c.requires.narrow;
       rows = rows_few view α _ 63 (c.stepping_of-stepping.ensures ∙ ap (λ (r : Option ℕ). stepped r α) c.kept_row_variables-rows.ensures) few;
-      short = c.slot_start.ensures.short;
-      cells = c.slot_start.ensures.cells;
+      short = c.slot-start.ensures.short;
+      cells = c.slot-start.ensures.cells;
     }
 
 pub returns : goal.returns
@@ -33,7 +33,7 @@ returns g c =
     let point = c.args.point.now in
     let p = map m.means point in
     let b = c.args.batching.now in
-    let slot = c.slot_start.result.1.now in
+    let slot = c.slot-start.result.1.now in
     let s = steps m.means c.stepping_of-stepping.result in
     let rows : named view ≤ length p = omega (arith, rows_named (told m.log) (length point) view (sym c.requires.opened), length-map point m.means) in
     let sent : c.is_some.result ≡ is_some (kept m.log view) = c.is_some.ensures ∙ ap is_some c.kept_row_variables-rows.ensures in
@@ -43,8 +43,8 @@ returns g c =
     let both : is_some (kept m.log view) ≡ is_some α = challenged m.log view c.args.challenge (length b) refusal ∙ some_mapped m.means c.args.challenge in
     record {
       refusal = refusal;
-      batched = batches laws p (cell c.args.bits.now) view (map m.means b) α (map m.means slot) c.slot_start.result.0 s (m.means c.slot_sum-initial.result)
-          c.slot_start.ensures.coordinates c.slot_start.ensures.start e both rows c.slot_sum-initial.ensures.initial;
-      rows = rows_in_slot laws p view α s (length slot) e (sym (length-map slot m.means) ∙ ap length c.slot_start.ensures.coordinates) rows;
-      short = c.slot_start.ensures.short;
+      batched = batches laws p (cell c.args.bits.now) view (map m.means b) α (map m.means slot) c.slot-start.result.0 s (m.means c.slot_sum-initial.result)
+          c.slot-start.ensures.coordinates c.slot-start.ensures.start e both rows c.slot_sum-initial.ensures.initial;
+      rows = rows_in_slot laws p view α s (length slot) e (sym (length-map slot m.means) ∙ ap length c.slot-start.ensures.coordinates) rows;
+      short = c.slot-start.ensures.short;
     }

@@ -16,7 +16,7 @@ use Rattle.reducing.specs.Batched.{batching_of}
 use Rattle.reducing.proofs.Reports.{few_elements}
 use Rattle.reducing.proofs.report.batched_lines.Given as given
 use Rattle.reducing.proofs.report.batched_lines.Goals as goal
-use Rattle.reducing.proofs.report.batched_lines.Goals.{In-ok-check_batching, at·batch_slot-requires, at·batch_lines-requires, at·returns}
+use Rattle.reducing.proofs.report.batched_lines.Goals.{In_ok-check_batching}
 
 pub returns-in_err-check_batching : goal.returns-in_err-check_batching
 returns-in_err-check_batching g c =
@@ -31,7 +31,7 @@ returns-in_err-check_batching g c =
     (c.in_err-check_batching.ensures ∙ ap₂ (λ (s u : Bool). batching (told m.log) s u (length b)) sent c.is_some.ensures))
 
 -- the batching is not refused
-passed : (g : given.Over) (c : In-ok-check_batching g) → None ≡ batch_refusal g.L.Level.log c.args.problem.now.view c.args.problem.now.challenge (length c.args.batching.now)
+passed : (g : given.Over) (c : In_ok-check_batching g) → None ≡ batch_refusal g.L.Level.log c.args.problem.now.view c.args.problem.now.challenge (length c.args.batching.now)
 passed g c =
     let m = g.L.Level in
     let problem = c.args.problem.now in
@@ -48,7 +48,7 @@ batch_slot-requires g c =
       narrow = c.requires.narrow;
       short = omega (arith, points, c.requires.short);
       rows = omega (arith, points, c.requires.rows);
-      passed = sym (passed g (at·batch_slot-requires g c).In-ok-check_batching);
+      passed = sym (passed g (goal.at.batch_slot-requires g c).In_ok-check_batching);
       count = few_elements m.means g.met.L.Level.ring _ _ _ _ w.factors short;
       tensor = w.tensor_rows;
       carry = w.carry_rows;
@@ -77,5 +77,5 @@ returns g c =
     (ap (λ l. w ++ closing_text m.arithmetic s (map points l)) c.as_slice.ensures.value
     ∙ batching_passed m.arithmetic t (vec_items problem.bits) refl (string_bytes c.args.out.now) _ (ap (map m.means) c.as_slice-point.ensures.value)
     (map m.means b) (length b) (sym (length-map b m.means)) _ (some_mapped m.means problem.challenge) w s
-    (passed g (at·returns g c).In-ok-check_batching) (c.in_ok-batch.ensures.batched _ worked) c.in_ok-batch_lines.ensures)
+    (passed g (goal.at.returns g c).In_ok-check_batching) (c.in_ok-batch.ensures.batched _ worked) c.in_ok-batch_lines.ensures)
     c.closing_lines.ensures

@@ -15,7 +15,7 @@ use Rattle.reduction.specs.Worked.{Worked}
 use Rattle.reducing.proofs.Reports.{opened_passed, absorbed_point, matched_width}
 use Rattle.reducing.proofs.report.opened_lines.Given as given
 use Rattle.reducing.proofs.report.opened_lines.Goals as goal
-use Rattle.reducing.proofs.report.opened_lines.Goals.{In-ok-check_open, at·work-requires, at·values_lines-requires, at·returns}
+use Rattle.reducing.proofs.report.opened_lines.Goals.{In_ok-check_open}
 
 pub returns-in_err-check_open : goal.returns-in_err-check_open
 returns-in_err-check_open g c =

@@ -13,10 +13,10 @@ use Rattle.reducing.proofs.Stepping.{cells_binary}
 use Rattle.reducing.proofs.Reports.{values_passed}
 use Rattle.reducing.proofs.report.values_lines.Given as given
 use Rattle.reducing.proofs.report.values_lines.Goals as goal
-use Rattle.reducing.proofs.report.values_lines.Goals.{In-ok-opening_lines, at·returns-in-Some, at·returns-in-None}
+use Rattle.reducing.proofs.report.values_lines.Goals.{In_ok-opening_lines}
 
 -- what is written of the opening, and the text of the batching
-passed : (g : given.Over) (c : In-ok-opening_lines g)
+passed : (g : given.Over) (c : In_ok-opening_lines g)
     → string_bytes c.opening_lines.new.out ++ batched_text g.L.Level.arithmetic (task_of g.L.Level.means c.args.problem.now) (option_map (λ v. map g.L.Level.means (vec_items v)) c.args.problem.now.batching)
     ≡ string_bytes c.args.out.now ++ values_text g.L.Level.arithmetic (task_of g.L.Level.means c.args.problem.now)
 passed g c =
@@ -51,7 +51,7 @@ returns-in-Some g c =
     subst (Reported c.batched_lines.result (string_bytes c.batched_lines.new.out))
     (ap (λ l. string_bytes c.opening_lines.new.out ++ batched_text m.arithmetic t (Some (map m.means l))) c.as_slice-in-Some.ensures.value
     ∙ ap (λ (o : Option (Vec g.row.L.Denot Global)). string_bytes c.opening_lines.new.out ++ batched_text m.arithmetic t (option_map points o)) (sym c.in-Some.is)
-    ∙ passed g (at·returns-in-Some g c).In-ok-opening_lines)
+    ∙ passed g (goal.at.returns-in-Some g c).In_ok-opening_lines)
     c.batched_lines.ensures
 
 pub returns-in-None : goal.returns-in-None
@@ -62,4 +62,4 @@ returns-in-None g c =
     let points : Vec g.row.L.Denot Global → Point m.log = λ v. map m.means (vec_items v) in
     sym (append-nil (string_bytes c.opening_lines.new.out))
     ∙ ap (λ (o : Option (Vec g.row.L.Denot Global)). string_bytes c.opening_lines.new.out ++ batched_text m.arithmetic t (option_map points o)) (sym c.in-None.is)
-    ∙ passed g (at·returns-in-None g c).In-ok-opening_lines
+    ∙ passed g (goal.at.returns-in-None g c).In_ok-opening_lines
