@@ -16,7 +16,7 @@ weights_of-requires g c =
       narrow = c.requires.narrow;
       rows = c.requires.rows;
       count = c.requires.count;
-      eq-batch = ap length c.as_slice-eq_batch.ensures.value
+      eq_batch = ap length c.as_slice-eq_batch.ensures.value
           ∙ batch_count m.means m.arithmetic c.args.batching.now (vec_items c.in_ok-table.table) c.requires.batching c.in_ok-table.ensures;
     }
 
@@ -24,7 +24,7 @@ pub initial_of-initial-requires : goal.initial_of-initial-requires
 initial_of-initial-requires g c =
     let m = g.L.Level in
     record {
-      eq-batch = ap length c.as_slice-eq_batch.ensures.value
+      eq_batch = ap length c.as_slice-eq_batch.ensures.value
           ∙ batch_count m.means m.arithmetic c.args.batching.now (vec_items c.in_ok-table.table) c.requires.batching c.in_ok-table.ensures;
       tensor = c.requires.tensor;
       carry = c.requires.carry;

@@ -9,7 +9,7 @@ use Rattle.reduction.proofs.work.work.Goals as goal
 pub tensor_of-requires : goal.tensor_of-requires
 tensor_of-requires g c =
     let m = g.L.Level in
-    let s = c.slot_start.ensures in
+    let s = c.slot-start.ensures in
     let e = c.reading-equality.ensures in
     record {
       wide = c.requires.wide;
@@ -22,7 +22,7 @@ successor_tensors-requires g c =
     let m = g.L.Level in
     let laws = g.met.L.Level.ring in
     let point = c.args.point.now in
-    let s = c.slot_start.ensures in
+    let s = c.slot-start.ensures in
     let e = c.reading-equality.ensures in
     let f = c.in_ok-factors.ensures in
     record {
@@ -40,12 +40,12 @@ returns g c bits same =
     let point = c.args.point.now in
     let p = map m.means point in
     let view = c.args.view in
-    let s = c.slot_start.ensures in
+    let s = c.slot-start.ensures in
     let e = c.reading-equality.ensures in
     let f = c.in_ok-factors.ensures in
     let opens = opens_at m.means laws point _ _ _ view s.coordinates f _ _ _ _ s.start c.requires.elements e.outer e.inner bits same in
-    let under : (q : ℕ) → view ≡ Some q → Opens m.means m.arithmetic p (Some q) bits c.args.packed.now c.slot_start.result.0 c.reading-equality.result.outer.now c.reading-equality.result.inner.now =
-    λ q v. subst (λ (w : View). Opens m.means m.arithmetic p w bits c.args.packed.now c.slot_start.result.0 c.reading-equality.result.outer.now c.reading-equality.result.inner.now) v opens in
+    let under : (q : ℕ) → view ≡ Some q → Opens m.means m.arithmetic p (Some q) bits c.args.packed.now c.slot-start.result.0 c.reading-equality.result.outer.now c.reading-equality.result.inner.now =
+    λ q v. subst (λ (w : View). Opens m.means m.arithmetic p w bits c.args.packed.now c.slot-start.result.0 c.reading-equality.result.outer.now c.reading-equality.result.inner.now) v opens in
     let within : (q : ℕ) → view ≡ Some q → q ≤ length p = λ q v. omega (arith, length-map point m.means, ap named v, c.requires.rows) in
     let t = c.in_ok-carry.ensures in
     record {
