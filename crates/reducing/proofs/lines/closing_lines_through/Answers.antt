@@ -57,7 +57,7 @@ returns-in_err-value g c =
     let r = ring_switch_refusal c.in_err-value.field-0.0 in
     let refusal : Some r ≡ closing (length b.slot) n =
     subst (λ (l : ℕ). Some r ≡ closing l n) (sym (length-map batched.slot.now m.means)) c.in_err-value.ensures.refusal in
-    let p = err_from_is_err_and c.from-residual.result c.from-residual.ensures.1 in
+    let p = err_from_is_err_and c.from_residual.result c.from_residual.ensures.1 in
     rw (p.1, p.2) (closing_refused m.arithmetic b zs total (string_bytes c.loop-z.out) i c.loop-z.invariant (points v) n
     (omega (arith, length-map vs points, c.loop-z-test.true)) read len r refusal)
 

@@ -24,7 +24,7 @@ returns-in_err-check_batching g c =
     let problem = c.args.problem.now in
     let t = task_of m.means problem in
     let b = c.args.batching.now in
-    let p = err_from_is_err_and c.from-residual.result c.from-residual.ensures.1 in
+    let p = err_from_is_err_and c.from_residual.result c.from_residual.ensures.1 in
     let sent : c.is_some-sent.result ≡ is_some (kept m.log problem.view) = c.is_some-sent.ensures ∙ ap is_some c.kept_row_variables.ensures in
     rw (p.1, p.2) (batching_refused m.arithmetic t (vec_items problem.bits) refl (string_bytes c.args.out.now) t.point refl
     (map m.means b) (length b) (sym (length-map b m.means)) _ (some_mapped m.means problem.challenge) _

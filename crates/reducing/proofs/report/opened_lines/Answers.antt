@@ -22,7 +22,7 @@ returns-in_err-check_open g c =
     let m = g.L.Level in
     let t = task_of m.means c.args.problem.now in
     let points = c.as_slice-point.ensures.value in
-    let p = err_from_is_err_and c.from-residual.result c.from-residual.ensures.1 in
+    let p = err_from_is_err_and c.from_residual.result c.from_residual.ensures.1 in
     rw (p.1, p.2) (opening_refused m.arithmetic t t.bits refl (string_bytes c.args.out.now) t.point refl
     c.args.variables (length c.as_slice-point.result.now) c.requires.variables (ap length points ∙ sym (length-map (vec_items c.args.problem.now.point) m.means)) _
     c.in_err-check_open.ensures)

@@ -17,7 +17,7 @@ pub returns-in_err-variables : goal.returns-in_err-variables
 returns-in_err-variables g c =
     let m = g.L.Level in
     let t = task_of m.means c.args.problem.now in
-    let p = err_from_is_err_and c.from-residual.result c.from-residual.ensures.1 in
+    let p = err_from_is_err_and c.from_residual.result c.from_residual.ensures.1 in
     rw (p.1, p.2) (packing_refused m.arithmetic t _ c.as_slice-bits.ensures.value (string_bytes c.args.out.now) _ c.in_err-variables.ensures.refusal)
 
 pub overflow_shl-variables : goal.overflow_shl-variables
