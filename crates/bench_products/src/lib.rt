@@ -6,7 +6,7 @@ ghost use Rattle.doubling.specs.Doubled.{tower};
 ghost use Rattle.polynomial.specs.Polynomial.{polynomial};
 ghost use Rattle.bench_products.specs.Chain.{chained, low_chained};
 
-use byte_levels::polynomial::PolynomialByte;
+use byte_levels::polynomial_byte::PolynomialByte;
 use byte_levels::tower::TowerByte;
 use doubling::doubling::Doubling;
 use level::level::Level;

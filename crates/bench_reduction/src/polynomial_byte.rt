@@ -11,7 +11,7 @@ ghost use Rattle.packing.specs.Packing.{Packed};
 ghost use Rattle.equality.specs.Tables.{Factors};
 ghost use Rattle.byte_levels.specs.contracts.polynomial.PolynomialByteLevel.TheImpl.{ghosts as of};
 
-use byte_levels::polynomial::PolynomialByte;
+use byte_levels::polynomial_byte::PolynomialByte;
 use equality::factored::{FactoredEquality, factor};
 use folding::carry::carry_over;
 use folding::last::last_over;

@@ -5,5 +5,5 @@
 pub mod agreement;
 pub mod bits;
 pub mod combine;
-pub mod polynomial;
+pub mod polynomial_byte;
 pub mod tower;

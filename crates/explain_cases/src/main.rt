@@ -13,7 +13,7 @@ fn main(rt: HostRuntime) -> io::Result<()> {
     for _ in 0..u64::MAX {
         line.clear();
         let more = input.read_until(b'\n', &mut line)? > 0;
-        if more && line.as_slice() != b"--\n" {
+        if more && line.as_slice() != b"--\n".as_slice() {
             case.extend_from_slice(line.as_slice())?;
             continue;
         }

@@ -1,16 +1,16 @@
 ghost use Rattle.std.specs.Prelude.{◌≡◌, ◌^◌, ◌<◌, ◌≤◌, ◌++◌, map, length, IfOk, Some, None, string_bytes};
 ghost use Rattle.refusals.specs.Steps.{told, opening};
 ghost use Rattle.problem.specs.Task.{task_of};
-ghost use Rattle.report.specs.Report.{variables_of, batched_text, opened_text, report_text, Reported};
+ghost use Rattle.report_lines.specs.Report.{variables_of, batched_text, opened_text, report_text, Reported};
 
 use crate::step_lines::{batch_lines, closing_lines, packed_lines};
 use crate::steps::{batch, open};
 use level::level::Level;
 use problem::problem::Problem;
-use report::finish::finish;
-use report::opening::opening_lines;
-use report::stop::Stop;
-use report::variables::packed_variables;
+use report_lines::finish::finish;
+use report_lines::opening::opening_lines;
+use report_lines::stop::Stop;
+use report_lines::variables::packed_variables;
 use std::alloc::{AllocError, Global};
 
 // Adds the lines of the batching at a point and of the closing points, until a step is refused.

@@ -4,14 +4,14 @@ ghost use Rattle.multilinear.specs.Cells.{cell};
 ghost use Rattle.ring_switch.specs.BatchingLaws.{RowsWithin};
 ghost use Rattle.plain.specs.Steps.{steps};
 ghost use Rattle.explanation.specs.Batched.{batching_of};
-ghost use Rattle.report.specs.Report.{lines_below, packed_line, weight_line, batching_text, closing_text, Reported};
+ghost use Rattle.report_lines.specs.Report.{lines_below, packed_line, weight_line, batching_text, closing_text, Reported};
 
 use crate::steps::{BatchedSlot, close};
 use level::level::Level;
 use plain::batching::weight;
 use plain::cells::packed_element;
-use report::lines::element_line;
-use report::stop::Stop;
+use report_lines::lines::element_line;
+use report_lines::stop::Stop;
 use std::alloc::{AllocError, Global};
 
 // Adds a line for each of the first packed elements.

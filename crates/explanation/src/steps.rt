@@ -7,8 +7,8 @@ ghost use Rattle.ring_switch.specs.BatchingLaws.{RowsWithin};
 ghost use Rattle.refusals.specs.Refusals.{ring_switch_refusal, refused};
 ghost use Rattle.refusals.specs.Steps.{told, opening, closing};
 ghost use Rattle.plain.specs.Steps.{steps};
-ghost use Rattle.report.specs.Opened.{open_refusal, values_at, values_of};
-ghost use Rattle.report.specs.Batched.{batch_refusal, slot_batching};
+ghost use Rattle.report_lines.specs.Opened.{open_refusal, values_at, values_of};
+ghost use Rattle.report_lines.specs.Batched.{batch_refusal, slot_batching};
 ghost use Rattle.explanation.specs.Batched.{batching_of};
 
 use level::level::Level;
@@ -18,8 +18,8 @@ use plain::stepping::Stepping;
 use plain::values::{successor_value, table_value};
 use refusals::faults::BitRingSwitchError;
 use refusals::steps::{check_batching, check_closing, check_opening, check_width};
-use report::opening::Opening;
-use report::stepping::stepping_of;
+use report_lines::opening::Opening;
+use report_lines::stepping::stepping_of;
 
 // A batching of the packed elements of a slot.
 #[derive(Drop)]

@@ -3,7 +3,7 @@ ghost use Rattle.product_line.specs.declared.line.LineFault.TheVariants.{Letter,
 ghost use Rattle.product_line.specs.Letters.{Answer, BadLine, Reply, fault_text, Stripped};
 
 use crate::line::{LineFault, product};
-use byte_levels::polynomial::PolynomialByte;
+use byte_levels::polynomial_byte::PolynomialByte;
 use byte_levels::tower::TowerByte;
 use doubling::doubling::Doubling;
 use level_name::{LevelName, level_named};

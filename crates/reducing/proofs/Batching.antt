@@ -14,8 +14,8 @@ use Rattle.refusals.specs.Steps.{told}
 use Rattle.plain.specs.Openings.{named}
 use Rattle.reduction.specs.Worked.{Worked}
 use Rattle.reduction.specs.declared.work.OpenedTable.{OpenedTable}
-use Rattle.report.specs.Batched.{stepped, batch_refusal, Batching, slot_batching}
-use Rattle.report.proofs.Passed.{passed, met}
+use Rattle.report_lines.specs.Batched.{stepped, batch_refusal, Batching, slot_batching}
+use Rattle.report_lines.proofs.Passed.{passed, met}
 
 -- a batching that is not refused has a coordinate for each that an element absorbs
 pub batching_width : {X : Type 0} (k : ℕ) (view : View) (α : Option X) (n : ℕ) → k ≤ 7 → None ≡ batch_refusal k view α n → n ≡ k

@@ -15,9 +15,9 @@ use Rattle.multilinear.specs.Cells.{cell}
 use Rattle.problem.specs.Task.{Task}
 use Rattle.refusals.specs.Refusals.{Refusal}
 use Rattle.refusals.specs.Steps.{told, stride, opening, width}
-use Rattle.report.specs.Opened.{Values, open_refusal, values_at}
-use Rattle.report.specs.Report.{unless, variables_of, opening_text, batched_text, opened_text}
-use Rattle.report.proofs.Passed.{passed, both_passed, met}
+use Rattle.report_lines.specs.Opened.{Values, open_refusal, values_at}
+use Rattle.report_lines.specs.Report.{unless, variables_of, opening_text, batched_text, opened_text}
+use Rattle.report_lines.proofs.Passed.{passed, both_passed, met}
 use Rattle.reducing.specs.Texts.{values_text}
 
 -- an opening that is not refused

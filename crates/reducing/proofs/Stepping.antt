@@ -6,7 +6,7 @@ use Rattle.multilinear.specs.Cells.{cell}
 use Rattle.ring_switch.specs.ClaimLaws.{Binary}
 use Rattle.ring_switch.specs.Opening.{Prefix}
 use Rattle.refusals.specs.Steps.{stride}
-use Rattle.report.specs.Opened.{Values}
+use Rattle.report_lines.specs.Opened.{Values}
 
 -- how many packed elements bytes are
 pub count_is : (k n count : ℕ) → n ≡ count * stride k → n / stride k ≡ count

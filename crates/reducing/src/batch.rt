@@ -9,7 +9,7 @@ ghost use Rattle.equality.specs.Tables.{Tabulated};
 ghost use Rattle.plain.specs.Openings.{named};
 ghost use Rattle.plain.specs.Steps.{steps};
 ghost use Rattle.reduction.specs.Worked.{Worked};
-ghost use Rattle.report.specs.Batched.{batch_refusal, slot_batching};
+ghost use Rattle.report_lines.specs.Batched.{batch_refusal, slot_batching};
 ghost use Rattle.reducing.specs.Batched.{batching_of};
 
 use level::level::Level;
@@ -17,7 +17,7 @@ use plain::opening::{kept_row_variables, slot};
 use plain::stepping::Stepping;
 use reduction::batch::{BatchedSlot, batch};
 use reduction::work::OpenedTable;
-use report::stepping::stepping_of;
+use report_lines::stepping::stepping_of;
 use std::alloc::{AllocError, Global};
 
 // A batching of the packed elements of a slot, with its tables.

@@ -6,14 +6,14 @@ ghost use Rattle.ring_switch.specs.Batching.{weight};
 ghost use Rattle.ring_switch.specs.BatchingLaws.{RowsWithin};
 ghost use Rattle.equality.specs.Tables.{Tabulated};
 ghost use Rattle.plain.specs.Steps.{steps};
-ghost use Rattle.report.specs.Report.{batching_text, closing_text, Reported};
+ghost use Rattle.report_lines.specs.Report.{batching_text, closing_text, Reported};
 ghost use Rattle.reducing.specs.Batched.{batching_of};
 
 use crate::batch::SlotBatch;
 use crate::steps::close;
 use level::level::Level;
-use report::lines::{element_line, element_lines};
-use report::stop::Stop;
+use report_lines::lines::{element_line, element_lines};
+use report_lines::stop::Stop;
 use std::alloc::{AllocError, Global};
 
 // Adds the lines of a batching: the initial sum and the weights.

@@ -1,10 +1,10 @@
 ghost use Rattle.std.specs.Prelude.{◌≡◌, true, IfOk, string_bytes};
 ghost use Rattle.explain_input.specs.Inputs.{parts_of};
 ghost use Rattle.explain_input.specs.Values.{level_letter};
-ghost use Rattle.report.specs.Replies.{ReplyAt, ReplyTo, Reply};
+ghost use Rattle.report_lines.specs.Replies.{ReplyAt, ReplyTo, Reply};
 
 use crate::report::report;
-use byte_levels::polynomial::PolynomialByte;
+use byte_levels::polynomial_byte::PolynomialByte;
 use byte_levels::tower::TowerByte;
 use doubling::doubling::Doubling;
 use explain_input::input::{Input, read_input};

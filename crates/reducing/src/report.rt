@@ -3,7 +3,7 @@ ghost use Rattle.multilinear.specs.Cells.{cell, packed as packed-element};
 ghost use Rattle.multilinear.specs.Lent.{lent};
 ghost use Rattle.plain.specs.Openings.{named};
 ghost use Rattle.problem.specs.Task.{task_of};
-ghost use Rattle.report.specs.Report.{variables_of, batched_text, opened_text, report_text, Reported};
+ghost use Rattle.report_lines.specs.Report.{variables_of, batched_text, opened_text, report_text, Reported};
 ghost use Rattle.reduction.specs.Worked.{Worked};
 ghost use Rattle.reducing.specs.Texts.{values_text};
 
@@ -15,11 +15,11 @@ use plain::opening::kept_row_variables;
 use problem::problem::Problem;
 use reduction::work::{OpenedTable, work};
 use refusals::steps::check_batching;
-use report::finish::finish;
-use report::lines::element_lines;
-use report::opening::opening_lines;
-use report::stop::Stop;
-use report::variables::packed_variables;
+use report_lines::finish::finish;
+use report_lines::lines::element_lines;
+use report_lines::opening::opening_lines;
+use report_lines::stop::Stop;
+use report_lines::variables::packed_variables;
 use std::alloc::{AllocError, Global};
 
 // Adds the lines of the batching at a point and of the closing points, until a step is refused.

@@ -14,18 +14,18 @@ ghost use Rattle.refusals.specs.Steps.{stride, closing};
 ghost use Rattle.plain.specs.Openings.{named};
 ghost use Rattle.plain.specs.Steps.{steps};
 ghost use Rattle.reduction.specs.Worked.{Worked};
-ghost use Rattle.report.specs.Opened.{open_refusal, values_at, values_of};
+ghost use Rattle.report_lines.specs.Opened.{open_refusal, values_at, values_of};
 
 use closing::closing::closing_value;
 use level::level::Level;
 use packing::pack_elements;
 use plain::opening::fixed_prefix;
 use plain::stepping::Stepping;
-use reduction::claims::{incoming, low_equality, successor};
+use reduction::opened_claims::{incoming, low_equality, successor};
 use reduction::work::OpenedTable;
 use refusals::faults::BitRingSwitchError;
 use refusals::steps::{check_closing, check_opening, check_width};
-use report::opening::Opening;
+use report_lines::opening::Opening;
 use std::alloc::{AllocError, Global};
 
 // The packed elements of a table, of which there are `count`.

@@ -3,8 +3,8 @@
 #![tactic(auto)]
 
 pub mod batch;
-pub mod claims;
 mod memory;
+pub mod opened_claims;
 pub mod tables;
 mod tensors;
 pub mod work;

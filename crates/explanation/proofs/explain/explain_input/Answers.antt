@@ -3,7 +3,7 @@ use Rattle.std.specs.declared.alloc.Global.{Global}
 use Rattle.doubling.specs.Doubled.{tower}
 use Rattle.level_name.specs.declared.LevelName.TheVariants.{TowerByte, Tower16, Tower32, Tower64, PolynomialByte}
 use Rattle.explain_input.specs.Inputs.{parts_of}
-use Rattle.report.proofs.Answering.{answered}
+use Rattle.report_lines.proofs.Answering.{answered}
 use Rattle.explanation.proofs.explain.explain_input.Goals as goal
 
 pub returns-in-TowerByte : goal.returns-in-TowerByte

@@ -5,9 +5,9 @@ use Rattle.std.specs.declared.alloc.Global.{Global}
 use Rattle.multilinear.specs.Equality.{Point}
 use Rattle.explanation.specs.Batched.{batching_of}
 use Rattle.problem.specs.Task.{task_of}
-use Rattle.report.specs.Report.{Reported, closing_text}
+use Rattle.report_lines.specs.Report.{Reported, closing_text}
 use Rattle.problem.proofs.Optional.{some_mapped}
-use Rattle.report.proofs.Reporting.{batching_refused, batching_passed}
+use Rattle.report_lines.proofs.Reporting.{batching_refused, batching_passed}
 use Rattle.explanation.proofs.report.batched_lines.Goals as goal
 
 pub returns-in_err-batched : goal.returns-in_err-batched

@@ -5,10 +5,10 @@ use Rattle.std.proofs.lemmas.Result.{err_from_is_err_and}
 use Rattle.std.specs.Option.{option_map}
 use Rattle.std.specs.declared.alloc.Global.{Global}
 use Rattle.multilinear.specs.Equality.{Point}
-use Rattle.report.specs.Opened.{values_of}
+use Rattle.report_lines.specs.Opened.{values_of}
 use Rattle.problem.specs.Task.{task_of}
-use Rattle.report.specs.Report.{Reported, batched_text, opened_text}
-use Rattle.report.proofs.Reporting.{opening_refused, opening_passed}
+use Rattle.report_lines.specs.Report.{Reported, batched_text, opened_text}
+use Rattle.report_lines.proofs.Reporting.{opening_refused, opening_passed}
 use Rattle.explanation.proofs.report.opened_lines.Given as given
 use Rattle.explanation.proofs.report.opened_lines.Goals as goal
 use Rattle.explanation.proofs.report.opened_lines.Goals.{In_ok-opening_lines}

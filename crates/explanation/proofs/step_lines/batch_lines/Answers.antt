@@ -2,9 +2,9 @@ use Rattle.std.proofs.Common.{◌≡◌, ℕ, ◌^◌, List, ◌++◌, map, leng
 use lib.ListN.{length-map}
 use Rattle.element_text.specs.Hex.{element_text}
 use Rattle.explanation.specs.Batched.{batching_of}
-use Rattle.report.specs.Lines.{line}
-use Rattle.report.specs.Report.{batching_text, lines_below, weight_line}
-use Rattle.report.proofs.Writing.{joined}
+use Rattle.report_lines.specs.Lines.{line}
+use Rattle.report_lines.specs.Report.{batching_text, lines_below, weight_line}
+use Rattle.report_lines.proofs.Writing.{joined}
 use Rattle.explanation.proofs.step_lines.batch_lines.Goals as goal
 
 pub returns : goal.returns

@@ -8,8 +8,8 @@ use Rattle.refusals.specs.Steps.{closing}
 use Rattle.std.proofs.lemmas.Result.{err_from_is_err_and}
 use Rattle.plain.proofs.Means.{means_at}
 use Rattle.explanation.specs.Batched.{batching_of}
-use Rattle.report.specs.Report.{closing_text}
-use Rattle.report.proofs.Stopping.{closing_refused, closing_more, closing_all}
+use Rattle.report_lines.specs.Report.{closing_text}
+use Rattle.report_lines.proofs.Stopping.{closing_refused, closing_more, closing_all}
 use Rattle.explanation.proofs.step_lines.closing_lines.Goals as goal
 
 pub loop-z-init : goal.loop-z-init

@@ -1,6 +1,6 @@
 use Rattle.std.proofs.Common.{◌≡◌, ◌++◌, map, drop, vec_items, string_bytes}
 use Rattle.explanation.specs.Batched.{batching_of}
-use Rattle.report.specs.Report.{closing_text}
+use Rattle.report_lines.specs.Report.{closing_text}
 use Rattle.explanation.proofs.step_lines.closing_lines.Given as goal
 
 abbrev pub invariant-loop-z : goal.invariant-loop-z

@@ -2,9 +2,9 @@ use Rattle.std.proofs.Common.{string_bytes, codes, ap, le_trans, mul-le-mul_righ
 use Rattle.level.specs.Element.{width}
 use Rattle.element_text.specs.Hex.{element_text}
 use Rattle.multilinear.specs.Cells.{cell}
-use Rattle.report.specs.Lines.{line}
-use Rattle.report.specs.Report.{packed_line}
-use Rattle.report.proofs.Writing.{below_none, below_more, below_all}
+use Rattle.report_lines.specs.Lines.{line}
+use Rattle.report_lines.specs.Report.{packed_line}
+use Rattle.report_lines.proofs.Writing.{below_none, below_more, below_all}
 use Rattle.explanation.proofs.step_lines.packed_lines.Goals as goal
 
 pub loop-w-init : goal.loop-w-init

@@ -1,6 +1,6 @@
 use Rattle.std.proofs.Common.{◌≡◌, ◌++◌, string_bytes}
 use Rattle.multilinear.specs.Cells.{cell}
-use Rattle.report.specs.Report.{lines_below, packed_line}
+use Rattle.report_lines.specs.Report.{lines_below, packed_line}
 use Rattle.explanation.proofs.step_lines.packed_lines.Given as goal
 
 abbrev pub invariant-loop-w : goal.invariant-loop-w

@@ -2,10 +2,10 @@ use Rattle.std.proofs.Common.{◌^◌, length, string_bytes, codes, ap, arith}
 use Rattle.std.proofs.lemmas.Nat.{one_shl}
 use Rattle.element_text.specs.Hex.{element_text}
 use Rattle.explanation.specs.Batched.{batching_of}
-use Rattle.report.specs.Lines.{line}
-use Rattle.report.specs.Report.{weight_line}
-use Rattle.report.proofs.Batches.{rows_less}
-use Rattle.report.proofs.Writing.{below_none, below_more, below_all}
+use Rattle.report_lines.specs.Lines.{line}
+use Rattle.report_lines.specs.Report.{weight_line}
+use Rattle.report_lines.proofs.Batches.{rows_less}
+use Rattle.report_lines.proofs.Writing.{below_none, below_more, below_all}
 use Rattle.explanation.proofs.step_lines.weight_lines.Goals as goal
 
 pub loop-i-init : goal.loop-i-init

@@ -1,6 +1,6 @@
 use Rattle.std.proofs.Common.{◌≡◌, ◌++◌, string_bytes}
 use Rattle.explanation.specs.Batched.{batching_of}
-use Rattle.report.specs.Report.{lines_below, weight_line}
+use Rattle.report_lines.specs.Report.{lines_below, weight_line}
 use Rattle.explanation.proofs.step_lines.weight_lines.Given as goal
 
 abbrev pub invariant-loop-i : goal.invariant-loop-i

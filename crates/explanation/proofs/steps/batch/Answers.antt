@@ -6,9 +6,9 @@ use Rattle.ring_switch.specs.Opening.{kept}
 use Rattle.refusals.specs.Steps.{told, batching}
 use Rattle.plain.specs.Steps.{steps}
 use Rattle.plain.specs.Openings.{named}
-use Rattle.report.specs.Batched.{stepped, batch_refusal}
+use Rattle.report_lines.specs.Batched.{stepped, batch_refusal}
 use Rattle.problem.proofs.Optional.{some_mapped}
-use Rattle.report.proofs.Batches.{rows_named, challenged, rows_in_slot, rows_few, batches}
+use Rattle.report_lines.proofs.Batches.{rows_named, challenged, rows_in_slot, rows_few, batches}
 use Rattle.explanation.proofs.steps.batch.Goals as goal
 
 pub slot_sum-initial-requires : goal.slot_sum-initial-requires

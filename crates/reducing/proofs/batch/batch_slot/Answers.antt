@@ -7,8 +7,8 @@ use Rattle.ring_switch.specs.Opening.{kept, rest}
 use Rattle.plain.specs.Openings.{named}
 use Rattle.plain.specs.Steps.{steps}
 use Rattle.reduction.proofs.Working.{batch_count}
-use Rattle.report.specs.Batched.{stepped}
-use Rattle.report.proofs.Batches.{rows_few, rows_in_slot}
+use Rattle.report_lines.specs.Batched.{stepped}
+use Rattle.report_lines.proofs.Batches.{rows_few, rows_in_slot}
 use Rattle.reducing.proofs.Batching.{batching_width, batched}
 use Rattle.reducing.proofs.batch.batch_slot.Goals as goal
 

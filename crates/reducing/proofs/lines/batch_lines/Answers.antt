@@ -2,9 +2,9 @@ use Rattle.std.proofs.Common.{◌≡◌, ℕ, ◌^◌, ◌<◌, List, ◌++◌, 
 use lib.ListN.{length-map}
 use Rattle.element_text.specs.Hex.{element_text}
 use Rattle.multilinear.specs.Lent.{lent}
-use Rattle.report.specs.Lines.{line}
-use Rattle.report.specs.Report.{batching_text, lines_below, weight_line}
-use Rattle.report.proofs.Writing.{joined, below_same}
+use Rattle.report_lines.specs.Lines.{line}
+use Rattle.report_lines.specs.Report.{batching_text, lines_below, weight_line}
+use Rattle.report_lines.proofs.Writing.{joined, below_same}
 use Rattle.reducing.specs.Batched.{batching_of}
 use Rattle.reducing.proofs.lines.batch_lines.Goals as goal
 

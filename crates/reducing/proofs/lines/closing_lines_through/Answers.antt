@@ -9,8 +9,8 @@ use Rattle.std.proofs.lemmas.Result.{err_from_is_err_and}
 use Rattle.plain.proofs.Means.{means_at}
 use Rattle.reducing.specs.Batched.{batching_of}
 use Rattle.reducing.proofs.Closing.{closing_at}
-use Rattle.report.specs.Report.{closing_text}
-use Rattle.report.proofs.Stopping.{closing_refused, closing_more, closing_all}
+use Rattle.report_lines.specs.Report.{closing_text}
+use Rattle.report_lines.proofs.Stopping.{closing_refused, closing_more, closing_all}
 use Rattle.reducing.proofs.lines.closing_lines_through.Goals as goal
 
 pub loop-z-init : goal.loop-z-init

@@ -1,5 +1,5 @@
 use Rattle.std.proofs.Common.{◌≡◌, ◌++◌, map, drop, vec_items, string_bytes}
-use Rattle.report.specs.Report.{closing_text}
+use Rattle.report_lines.specs.Report.{closing_text}
 use Rattle.reducing.specs.Batched.{batching_of}
 use Rattle.reducing.proofs.lines.closing_lines_through.Given as goal
 

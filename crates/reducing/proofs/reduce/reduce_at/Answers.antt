@@ -1,4 +1,4 @@
-use Rattle.report.proofs.Answering.{few_bytes}
+use Rattle.report_lines.proofs.Answering.{few_bytes}
 use Rattle.reducing.proofs.reduce.reduce_at.Goals as goal
 
 pub report-requires : goal.report-requires

@@ -8,9 +8,9 @@ use Rattle.ring_switch.specs.Opening.{kept}
 use Rattle.refusals.specs.Steps.{told, batching}
 use Rattle.problem.proofs.Optional.{some_mapped}
 use Rattle.problem.specs.Task.{task_of}
-use Rattle.report.specs.Batched.{batch_refusal}
-use Rattle.report.specs.Report.{Reported, closing_text}
-use Rattle.report.proofs.Reporting.{batching_refused, batching_passed}
+use Rattle.report_lines.specs.Batched.{batch_refusal}
+use Rattle.report_lines.specs.Report.{Reported, closing_text}
+use Rattle.report_lines.proofs.Reporting.{batching_refused, batching_passed}
 use Rattle.reduction.specs.Worked.{Worked}
 use Rattle.reducing.specs.Batched.{batching_of}
 use Rattle.reducing.proofs.Reports.{few_elements}

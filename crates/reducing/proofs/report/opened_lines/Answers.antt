@@ -6,11 +6,11 @@ use Rattle.multilinear.specs.Cells.{cell}
 use Rattle.plain.specs.Openings.{named}
 use Rattle.problem.specs.Task.{task_of}
 use Rattle.refusals.specs.Steps.{told, opening, width}
-use Rattle.report.specs.Opened.{open_refusal}
-use Rattle.report.specs.Report.{Reported}
-use Rattle.report.proofs.Batches.{rows_named}
-use Rattle.report.proofs.Passed.{both_passed, short_point}
-use Rattle.report.proofs.Reporting.{opening_refused}
+use Rattle.report_lines.specs.Opened.{open_refusal}
+use Rattle.report_lines.specs.Report.{Reported}
+use Rattle.report_lines.proofs.Batches.{rows_named}
+use Rattle.report_lines.proofs.Passed.{both_passed, short_point}
+use Rattle.report_lines.proofs.Reporting.{opening_refused}
 use Rattle.reduction.specs.Worked.{Worked}
 use Rattle.reducing.proofs.Reports.{opened_passed, absorbed_point, matched_width}
 use Rattle.reducing.proofs.report.opened_lines.Given as given

@@ -5,11 +5,11 @@ use Rattle.element_text.specs.Hex.{element_text}
 use Rattle.multilinear.specs.Cells.{cell, packed}
 use Rattle.multilinear.specs.Lent.{lent}
 use Rattle.problem.specs.Task.{task_of}
-use Rattle.report.specs.Lines.{line}
-use Rattle.report.specs.Report.{Reported, lines_below, packed_line, opened_text, variables_of}
-use Rattle.report.proofs.Packed.{packable, few, variables_are}
-use Rattle.report.proofs.Reporting.{packing_refused, packing_passed}
-use Rattle.report.proofs.Writing.{below_same}
+use Rattle.report_lines.specs.Lines.{line}
+use Rattle.report_lines.specs.Report.{Reported, lines_below, packed_line, opened_text, variables_of}
+use Rattle.report_lines.proofs.Packed.{packable, few, variables_are}
+use Rattle.report_lines.proofs.Reporting.{packing_refused, packing_passed}
+use Rattle.report_lines.proofs.Writing.{below_same}
 use Rattle.reducing.proofs.Reports.{stride_is}
 use Rattle.reducing.proofs.report.problem_lines.Goals as goal
 

@@ -5,8 +5,8 @@ use Rattle.std.specs.declared.alloc.Global.{Global}
 use Rattle.multilinear.specs.Cells.{cell}
 use Rattle.multilinear.specs.Equality.{Point}
 use Rattle.problem.specs.Task.{task_of}
-use Rattle.report.specs.Opened.{values_of, values_at}
-use Rattle.report.specs.Report.{Reported, batched_text}
+use Rattle.report_lines.specs.Opened.{values_of, values_at}
+use Rattle.report_lines.specs.Report.{Reported, batched_text}
 use Rattle.reduction.specs.Worked.{Worked}
 use Rattle.reducing.specs.Texts.{values_text}
 use Rattle.reducing.proofs.Stepping.{cells_binary}

@@ -1,6 +1,0 @@
-use Rattle.std.proofs.Common.{rules}
-use Rattle.byte_levels.proofs.Coordinates.{zero_is}
-use Rattle.byte_levels.proofs.polynomial.PolynomialByteLevel.zero.Goals as goal
-
-pub returns : goal.returns
-returns c = search (rules, zero_is)

@@ -1,9 +1,0 @@
-use Rattle.std.proofs.Common.{◌≡◌, ◌++◌, string_bytes}
-use Rattle.element_text.specs.Hex.{element_text}
-use Rattle.multilinear.specs.Lent.{lent}
-use Rattle.report.specs.Lines.{line}
-use Rattle.report.specs.Report.{lines_below}
-use Rattle.report.proofs.lines.element_lines.Given as goal
-
-abbrev pub invariant-loop-i : goal.invariant-loop-i
-invariant-loop-i g l = string_bytes l.out ≡ string_bytes l.initial.out ++ lines_below l.i (λ j. line l.word (element_text (lent g.L.Level.means l.elements j)))

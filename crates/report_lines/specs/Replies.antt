@@ -1,0 +1,29 @@
+-- The reply to an input: the report of what it asks, or one line that says why it is not read.
+use Rattle.std.specs.Prelude.{◌≡◌, ℕ, ◌⊎◌, List, Some}
+use Rattle.level.specs.Laws.{Arithmetic}
+use Rattle.level_name.specs.Names.{named, arithmetic_of}
+use Rattle.level_name.specs.declared.LevelName.{LevelName}
+use Rattle.explain_input.specs.Inputs.{Parts, Says, BadInput}
+use Rattle.explain_input.specs.Messages.{input_message}
+use Rattle.explain_input.specs.declared.fault.InputFault.{InputFault}
+use Rattle.problem.specs.Reading.{Asks, BadProblem}
+use Rattle.problem.specs.declared.reading.ProblemFault.{ProblemFault}
+use Rattle.problem.specs.Messages.{problem_message, error_line}
+use Rattle.problem.specs.Task.{Task}
+use Rattle.report_lines.specs.Report.{report_text}
+
+-- the reply to the parts of an input at a level
+abbrev pub ReplyAt : {k : ℕ} → Arithmetic k → Parts → List ℕ → Type 0
+ReplyAt {k} A parts reply =
+    ((t : Task k) × Asks parts t × (reply ≡ report_text A t)) ⊎ ((f : ProblemFault) × BadProblem k parts f × (reply ≡ error_line (problem_message f)))
+
+-- the same at the level that their letter names
+pub record ReplyTo (parts : Parts) (reply : List ℕ) : Type 0 where
+  pub level : LevelName
+  pub level_is : named parts.letter ≡ Some level
+  pub reply_is : ReplyAt (arithmetic_of level) parts reply
+
+-- the reply to an input
+abbrev pub Reply : List ℕ → List ℕ → Type 0
+Reply text reply =
+    ((parts : Parts) × Says text parts × ReplyTo parts reply) ⊎ ((f : InputFault) × BadInput text f × (reply ≡ error_line (input_message f)))
