@@ -9,7 +9,7 @@ ghost use Rattle.ring_switch.specs.Claims.{starts, tensor as tensor-of, carry as
 ghost use Rattle.ring_switch.specs.Batching.{weight};
 ghost use Rattle.packing.specs.Packing.{Packed};
 ghost use Rattle.equality.specs.Tables.{Factors};
-ghost use Rattle.byte_levels.specs.contracts.polynomial.PolynomialByteLevel.TheImpl.{ghosts as of};
+ghost use Rattle.byte_levels.specs.contracts.polynomial_byte.PolynomialByteLevel.TheImpl.{ghosts as of};
 
 use byte_levels::polynomial_byte::PolynomialByte;
 use equality::factored::{FactoredEquality, factor};

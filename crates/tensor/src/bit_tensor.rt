@@ -2,6 +2,7 @@ ghost use Rattle.std.specs.Prelude.{◌≡◌, ◌<◌, ◌≤◌, map, length};
 ghost use Rattle.level.specs.Element.{width};
 ghost use Rattle.multilinear.specs.Lent.{lent};
 ghost use Rattle.tensor_algebra.specs.Tensor.{nothing, one, exterior, add, column, scale_rows, scale_columns, equality_factor, batch_rows, equality_element, successor_element};
+ghost use Rattle.ring_switch.specs.Claims.{by_columns};
 
 use crate::{equality, successor};
 use level::level::Level;
@@ -155,6 +156,16 @@ impl<'a, L: Level> BitTensor<'a, L> {
         ensures { lent L.means out.new ≡ column (lent L.means self.now.rows.now) }
     {
         columns::columns(self.elements(), out);
+    }
+
+    // The sum of all columns, column v times weight v.
+    pub fn by_columns(&self, weights: &[L]) -> L
+        requires narrow { L.Level.log ≤ 7 }
+        requires rows { length self.now.rows.now ≡ width L.Level.log }
+        requires weights { length weights.now ≡ width L.Level.log }
+        ensures { L.means result ≡ by_columns L.arithmetic (lent L.means weights.now) (lent L.means self.now.rows.now) }
+    {
+        columns::by_columns(self.elements(), weights)
     }
 
     // The sum of all rows, row u times weight u.

@@ -1,6 +1,7 @@
 -- One turn of the loops over columns, and what they end with.
 use Rattle.std.proofs.Common.{◌≡◌, ℕ, suc, ◌+◌, ◌*◌, ◌/◌, ◌%◌, ◌^◌, ◌<◌, ◌≤◌, List, length, get_or, set, sym, refl, ap, ◌∙◌, ap₂, mod-eq_of_lt, add-one, arith}
 use mathlib.Core.Path.{fun_ext}
+use Rattle.std.proofs.lemmas.Nat.{shr-shr}
 use Rattle.level.specs.Element.{Element, width, coordinate, cut, plus, zeros}
 use Rattle.level.specs.Laws.{Arithmetic, Laws}
 use Rattle.level.proofs.Elements.{same, cut_small, plus_assoc, plus_zeros}
@@ -12,10 +13,12 @@ use Rattle.multilinear.proofs.Lent.{lent_read}
 use Rattle.multilinear.proofs.Sums.{at_bit_zeros}
 use Rattle.multilinear.proofs.Coordinates.{coordinate_mod}
 use Rattle.tensor_algebra.specs.Subsets.{basis}
-use Rattle.tensor_algebra.specs.Tensor.{Tensor, nothing, exterior, add, column, scale_rows, scale_columns, equality_factor}
+use Rattle.tensor_algebra.specs.Tensor.{Tensor, nothing, exterior, add, column, scale_rows, scale_columns, equality_factor, subset_sum}
 use Rattle.tensor_algebra.proofs.BucketSums.{scale_columns_rows}
+use Rattle.ring_switch.specs.Claims.{by_columns}
 use Rattle.tensor_rows.proofs.Places.{Written, lent_past, written_read, written_more, written_all}
 use Rattle.tensor_rows.proofs.Tensors.{add_past, scale_rows_past, nothing_add}
+use Rattle.tensor_rows.proofs.ColumnSums.{columns_by_rows}
 
 -- a zero row adds nothing
 pub zero_row : {k : ℕ} (t : Tensor k) (x y z : Element k) → z ≡ zeros k → y ≡ z → t ≡ add t (exterior x y)
@@ -114,3 +117,50 @@ module _ {X : Type 0} {k : ℕ} (means : X → Element k) where
         let all : i ≡ width k = omega arith in
         let whole = e ∙ ap gathered all in
         made ∙ ap (cut k) whole ∙ same _ _ (cut_small k _ (binary_fits (width k) (λ u. coordinate (lent means xs u) v)))
+
+  -- the weights of the set coordinates
+  pub record Subset (n : ℕ) (ws : List X) (i rest : ℕ) (s : Element k) : Type 0 where
+    pub digits : rest ≡ n / 2 ^ i
+    pub total : s ≡ sum i (λ v. at_bit (n / 2 ^ v % 2) (lent means ws v))
+
+  pub subset_none : (n : ℕ) (ws : List X) (s : Element k) → s ≡ zeros k → Subset n ws 0 n s
+  unfolding sum
+  subset_none n ws s e = record { digits = omega arith; total = e }
+
+  pub subset_more : (n : ℕ) (ws : List X) (i rest : ℕ) (w : X) (s r : Element k) → i < length ws → w ≡ get_or ws i w
+      → r ≡ plus s (at_bit (rest % 2) (means w)) → Subset n ws i rest s → Subset n ws (i + 1) (rest / 2) r
+  unfolding sum
+  subset_more n ws i rest w s r h read made p = record {
+    digits = ap (λ m. m / 2) p.digits ∙ shr-shr n i 1;
+    total = made ∙ ap₂ plus p.total (ap₂ (λ m x. at_bit (m % 2) x) p.digits (lent_read means ws i w h read))
+        ∙ ap (λ j. sum j (λ v. at_bit (n / 2 ^ v % 2) (lent means ws v))) (sym (add-one i));
+  }
+
+  pub subset_all : (n : ℕ) (ws : List X) (x : Element k) (i rest : ℕ) (s : Element k) → n ≡ x.number → length ws ≡ width k
+      → i ≤ length ws → length ws ≤ i → Subset n ws i rest s → s ≡ subset_sum (lent means ws) x
+  unfolding subset_sum
+  subset_all n ws x i rest s number wide below above p =
+      let all : i ≡ width k = omega arith in
+      p.total ∙ ap₂ (λ j m. sum j (λ v. at_bit (m / 2 ^ v % 2) (lent means ws v))) all number
+
+  -- columns against weights, row by row
+  module _ (A : Arithmetic k) (ws xs : List X) where
+    unfoldable pub by_rows : ℕ → Element k
+    by_rows i = sum i (λ u. A.times (basis k u) (subset_sum (lent means ws) (lent means xs u)))
+
+    pub by_rows_none : (s : Element k) → s ≡ zeros k → s ≡ by_rows 0
+    unfolding by_rows sum
+    by_rows_none s e = e
+
+    pub by_rows_more : (i : ℕ) (x : X) (s r : Element k) → i < length xs → x ≡ get_or xs i x
+        → r ≡ plus s (A.times (basis k i) (subset_sum (lent means ws) (means x))) → s ≡ by_rows i → r ≡ by_rows (i + 1)
+    unfolding by_rows sum
+    by_rows_more i x s r h read made e =
+        made ∙ ap₂ (λ p y. plus p (A.times (basis k i) (subset_sum (lent means ws) y))) e (lent_read means xs i x h read) ∙ ap by_rows (sym (add-one i))
+
+    pub by_rows_all : Laws A → (i : ℕ) (s : Element k) → length xs ≡ width k → i ≤ length xs → length xs ≤ i → s ≡ by_rows i
+        → s ≡ by_columns A (lent means ws) (lent means xs)
+    unfolding by_rows
+    by_rows_all laws i s wide below above e =
+        let all : i ≡ width k = omega arith in
+        e ∙ ap by_rows all ∙ sym (columns_by_rows laws (lent means ws) (lent means xs))

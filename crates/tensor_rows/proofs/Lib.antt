@@ -1,5 +1,6 @@
 pub mod Places
 pub mod Tensors
 pub mod Turns
+pub mod ColumnSums
 pub mod ColumnTurns
 pub mod Transposed

@@ -3,9 +3,10 @@ ghost use Rattle.level.specs.Element.{plus, width, coordinate, zeros};
 ghost use Rattle.multilinear.specs.Gathered.{binary};
 ghost use Rattle.multilinear.specs.Lent.{lent};
 ghost use Rattle.tensor_algebra.specs.Subsets.{basis};
-ghost use Rattle.tensor_algebra.specs.Tensor.{nothing, exterior, add, column, scale_rows, scale_columns, equality_factor};
+ghost use Rattle.tensor_algebra.specs.Tensor.{nothing, exterior, add, column, scale_rows, scale_columns, equality_factor, subset_sum};
+ghost use Rattle.ring_switch.specs.Claims.{by_columns};
 
-use crate::rows::{add_exterior_product, clear};
+use crate::rows::{add_exterior_product, add_where_set, clear};
 use coordinates::{basis, coordinate, coordinates, from_coordinates, with_coordinate};
 use level::level::Level;
 
@@ -147,4 +148,43 @@ pub fn columns<L: Level>(rows: &[L], out: &mut [L])
     for v in 0..out.len() {
         out[v] = from_coordinates(gather(&source, rows.len(), v));
     }
+}
+
+// The sum of the weights of an element's set coordinates.
+fn subset_sum<L: Level>(weights: &[L], x: L) -> L
+    requires narrow { L.Level.log ≤ 7 }
+    requires weights { length weights.now ≡ width L.Level.log }
+    ensures { L.means result ≡ subset_sum (lent L.means weights.now) (L.means x) }
+{
+    let mut rest = coordinates(x);
+    let mut sum = L::zero();
+    for v in 0..weights.len() {
+        sum = add_where_set(sum, rest, weights[v]);
+        rest /= 2;
+    }
+    sum
+}
+
+// A sum, with row u read against the weights at the basis element u.
+fn with_row<L: Level>(sum: L, u: usize, row: L, weights: &[L]) -> L
+    requires narrow { L.Level.log ≤ 7 }
+    requires weights { length weights.now ≡ width L.Level.log }
+    requires place { u < width L.Level.log }
+    ensures { L.means result ≡ plus (L.means sum) (L.arithmetic.times (basis L.Level.log u) (subset_sum (lent L.means weights.now) (L.means row))) }
+{
+    sum.add(basis::<L>(u).mul(subset_sum(weights, row)))
+}
+
+// The sum of all columns, column v times weight v. It is summed by the rows, each of which is read once.
+pub fn by_columns<L: Level>(rows: &[L], weights: &[L]) -> L
+    requires narrow { L.Level.log ≤ 7 }
+    requires rows { length rows.now ≡ width L.Level.log }
+    requires weights { length weights.now ≡ width L.Level.log }
+    ensures { L.means result ≡ by_columns L.arithmetic (lent L.means weights.now) (lent L.means rows.now) }
+{
+    let mut sum = L::zero();
+    for u in 0..rows.len() {
+        sum = with_row(sum, u, rows[u], weights);
+    }
+    sum
 }

@@ -17,7 +17,14 @@ pub fn clear<L: Level>(rows: &mut [L])
 }
 
 // x, with y added where the lowest of the coordinates is set.
-fn add_where_set<L: Level>(x: L, coordinates: u8, y: L) -> L
+pub(crate) fn add_where_set<L: Level>(x: L, coordinates: u128, y: L) -> L
+    ensures { L.means result ≡ plus (L.means x) (at_bit (coordinates % 2) (L.means y)) }
+{
+    if coordinates % 2 == 1 { x.add(y) } else { x }
+}
+
+// The same with the coordinates of one byte.
+fn add_where_odd<L: Level>(x: L, coordinates: u8, y: L) -> L
     ensures { L.means result ≡ plus (L.means x) (at_bit (coordinates % 2) (L.means y)) }
 {
     if coordinates % 2 == 1 { x.add(y) } else { x }
@@ -32,7 +39,7 @@ fn add_from<L: Level>(rows: &mut [L], start: usize, count: usize, coordinates: u
 {
     let mut rest = coordinates;
     for i in 0..count {
-        rows[start + i] = add_where_set(rows[start + i], rest, b);
+        rows[start + i] = add_where_odd(rows[start + i], rest, b);
         rest /= 2;
     }
 }

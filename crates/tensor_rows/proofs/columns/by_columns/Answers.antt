@@ -1,0 +1,12 @@
+use Rattle.std.proofs.Common.{rules}
+use Rattle.tensor_rows.proofs.ColumnTurns.{by_rows_none, by_rows_more, by_rows_all}
+use Rattle.tensor_rows.proofs.columns.by_columns.Goals as goal
+
+pub loop-u-init : goal.loop-u-init
+loop-u-init g c = search (rules, by_rows_none)
+
+pub loop-u-preserved : goal.loop-u-preserved
+loop-u-preserved g c = search (rules, by_rows_more)
+
+pub returns : goal.returns
+returns g c = let laws = g.met.L.Level.ring in search (rules, by_rows_all)
