@@ -11,7 +11,7 @@ loop-i-preserved g c =
     let here : c.args.start + c.loop-i.i < length c.loop-i.rows = omega arith in (
       halved g.L.Level.means c.args.coordinates c.loop-i.i _ inv.0,
       picked_more g.L.Level.means c.args.coordinates (g.L.Level.means c.args.b) c.args.rows.now c.loop-i.rows c.args.start c.loop-i.i _ _ _
-          here c.index-rows-start.is c.add_where_set.ensures inv.0 inv.1,
+          here c.index-rows-start.is c.add_where_odd.ensures inv.0 inv.1,
     )
 
 pub returns : goal.returns
