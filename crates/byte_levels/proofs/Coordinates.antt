@@ -1,7 +1,6 @@
 -- A byte as an element of eight coordinates.
 use Rattle.std.proofs.Common.{◌≡◌, ℕ, ◌/◌, ◌%◌, ◌^◌, ◌<◌, List, [], ◌∷◌, get_or, sym, refl, ap, ◌∙◌, ap₂, mod-eq_of_lt, arith}
-use lib.Bits.{bit_xor, xor_mod}
-use Rattle.level.specs.Element.{Element, width, cut, plus, zeros}
+use Rattle.level.specs.Element.{Element, cut, zeros}
 use Rattle.level.specs.Laws.{Arithmetic, Laws}
 use Rattle.level.specs.Bytes.{digits, le_number, sixteen, from_sixteen}
 use Rattle.level.proofs.Elements.{same, cut_is, cut_number}

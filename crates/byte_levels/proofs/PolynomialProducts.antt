@@ -6,7 +6,7 @@ use Rattle.polynomial.specs.Polynomial.{polynomial, reduced, divided, product, r
 use Rattle.polynomial.proofs.Ring.{polynomial_laws}
 use Rattle.polynomial.proofs.Tests.{equal_below}
 use Rattle.byte_levels.specs.Rows.{selected}
-use Rattle.byte_levels.specs.PolynomialSteps.{xtime, multiples}
+use Rattle.byte_levels.specs.PolynomialSteps.{multiples}
 use Rattle.byte_levels.specs.Bytes.{PolynomialByte}
 use Rattle.byte_levels.proofs.Coordinates.{cut_of, byte_number, one_times}
 use Rattle.byte_levels.proofs.Selected.{selected_times}

@@ -1,5 +1,5 @@
 -- The weights of columns in the successor claim.
-use Rattle.std.proofs.Common.{◌≡◌, ℕ, ◌+◌, ◌-◌, ◌%◌, ◌^◌, ◌<◌, ◌≤◌, Bool, true, false, not, eqb, ltb, List, length, get_or, sym, refl, ap, ◌∙◌, ap₂, ⊎_elim, lt_of_lt_of_le, mod-eq_of_lt, arith, pow_pos, pow_mono}
+use Rattle.std.proofs.Common.{◌≡◌, ℕ, ◌-◌, ◌%◌, ◌^◌, ◌<◌, ◌≤◌, true, false, not, eqb, ltb, List, length, get_or, sym, ap, ◌∙◌, ap₂, ⊎_elim, lt_of_lt_of_le, mod-eq_of_lt, arith, pow_pos, pow_mono}
 use lib.Pow.{pow-lt, ones_lt}
 use Rattle.std.proofs.lemmas.Bool.Decides.{nat_tests}
 use Rattle.std.proofs.lemmas.Bool.{cases_lt}

@@ -1,5 +1,5 @@
 -- Columns against weights, and weights that are an equality table.
-use Rattle.std.proofs.Common.{◌≡◌, ℕ, ◌+◌, ◌-◌, ◌^◌, ◌<◌, ◌≤◌, List, length, sym, ap, ◌∙◌, ap₂, arith}
+use Rattle.std.proofs.Common.{◌≡◌, ℕ, ◌<◌, ◌≤◌, List, length, ap, ◌∙◌, arith}
 use Rattle.level.specs.Element.{Element, width}
 use Rattle.level.specs.Laws.{Arithmetic, Laws}
 use Rattle.multilinear.specs.Cells.{standing}
@@ -14,7 +14,6 @@ use Rattle.ring_switch.specs.Claims.{by_columns, incoming}
 use Rattle.ring_switch.specs.ClaimLaws.{Binary, opened}
 use Rattle.ring_switch.specs.Opening.{low}
 use Rattle.ring_switch.proofs.Incoming.{incoming_is_multilinear}
-use Rattle.ring_switch.proofs.SlotPrefix.{low_length}
 
 -- weights that agree below the width give one sum
 pub by_columns_same : {k : ℕ} (A : Arithmetic k) (f g : ℕ → Element k) (t : Tensor k) → ((v : ℕ) → v < width k → f v ≡ g v)

@@ -1,5 +1,5 @@
 -- Both ends of the sumcheck from batched rows.
-use Rattle.std.proofs.Common.{◌≡◌, ℕ, ◌≤◌, List, map, length, Some, None, Option, sym, refl, ap, ◌∙◌, subst, ap₂}
+use Rattle.std.proofs.Common.{◌≡◌, ℕ, List, map, length, Some, None, Option, sym, refl, ap, ◌∙◌, subst, ap₂}
 use lib.ListN.{length-map}
 use Rattle.level.specs.Element.{Element, plus}
 use Rattle.level.specs.Laws.{Arithmetic, Laws}
@@ -8,7 +8,6 @@ use Rattle.multilinear.specs.Sums.{sum}
 use Rattle.tensor_algebra.specs.Tensor.{Tensor, batch_rows, equality_element}
 use Rattle.ring_switch.specs.Batching.{Stepping, weight, successor_rows, initial_sum, carry_element, last_element, closing_value}
 use Rattle.ring_switch.specs.BatchingLaws.{RowsWithin}
-use Rattle.ring_switch.specs.Claims.{carry, last}
 use Rattle.ring_switch.proofs.Initial.{initial_weighted}
 use Rattle.ring_switch.proofs.ClosingElements.{closing_multilinear}
 use Rattle.closing.specs.Sent.{Sent}

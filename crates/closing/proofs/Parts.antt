@@ -4,7 +4,6 @@ use lib.ListN.{length-map}
 use Rattle.std.proofs.lemmas.List.{take-map, drop-map}
 use Rattle.level.specs.Element.{Element}
 use Rattle.level.specs.Laws.{Arithmetic}
-use Rattle.multilinear.specs.Equality.{Point}
 use Rattle.tensor_algebra.specs.Tensor.{Tensor, nothing, exterior, add, product, successor_element, equality_factors}
 use Rattle.ring_switch.specs.Batching.{carry_element, last_element}
 use Rattle.tensor.proofs.Folds.{left, none_left}

@@ -1,11 +1,11 @@
 -- A text read byte by byte.
-use Rattle.std.proofs.Common.{◌≡◌, ℕ, zero, suc, ◌+◌, ◌-◌, ◌*◌, ◌/◌, ◌%◌, ◌^◌, ◌<◌, ◌≤◌, List, [], ◌∷◌, ◌++◌, length, get_or, take, drop, set, replicate, sym, refl, ap, ◌∙◌, subst, ap₂, arith}
+use Rattle.std.proofs.Common.{◌≡◌, ℕ, zero, suc, ◌+◌, ◌-◌, ◌*◌, ◌/◌, ◌%◌, ◌<◌, ◌≤◌, List, [], ◌∷◌, ◌++◌, length, get_or, take, drop, set, replicate, sym, refl, ap, ◌∙◌, subst, ap₂, arith}
 use native.Mathlib.Decide.{dec_lt}
 use Rattle.std.proofs.lemmas.List.{take_more, append_assoc, take_all, length-take-le, length-set, get_or-take, take-append-drop, drop-set-lt, take_more_set, drop-replicate, drop-drop}
 use Rattle.level.specs.Element.{Element, cut}
 use Rattle.level.specs.Bytes.{Octets, le_number, from_sixteen}
-use Rattle.element_text.specs.Hex.{digit_code, hex, byte_count, NoDigit, IsDigit, Parsed, Broken, Pair, Writes}
-use Rattle.element_text.proofs.Hexes.{hex_append, length_hex}
+use Rattle.element_text.specs.Hex.{hex, byte_count, NoDigit, IsDigit, Parsed, Broken, Pair, Writes}
+use Rattle.element_text.proofs.Hexes.{hex_append}
 
 -- each character of the text of bytes is a digit
 pub hex_digits : (bs : List ℕ) → Octets bs → (i : ℕ) → i < 2 * length bs → IsDigit (get_or (hex bs) i 0)

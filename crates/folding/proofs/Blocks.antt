@@ -1,18 +1,17 @@
 -- The tensors of a slot by blocks of an equality table that is held in two factors.
-use Rattle.std.proofs.Common.{◌≡◌, ℕ, zero, suc, ◌+◌, ◌-◌, ◌*◌, ◌/◌, ◌%◌, ◌^◌, ◌<◌, ◌≤◌, Bool, true, false, not, ◌&&◌, eqb, sym, refl, ap, ◌∙◌, ap₂, lt_of_lt_of_le, mod-eq_of_lt, arith, pow_pos, pow_mono}
+use Rattle.std.proofs.Common.{◌≡◌, ℕ, zero, suc, ◌+◌, ◌-◌, ◌*◌, ◌%◌, ◌^◌, ◌<◌, ◌≤◌, Bool, true, false, not, ◌&&◌, eqb, sym, refl, ap, ◌∙◌, ap₂, lt_of_lt_of_le, mod-eq_of_lt, arith, pow_pos, pow_mono}
 use native.Mathlib.Decide.{dec_le}
 use native.Mathlib.Nat.{zero-mod}
 use Rattle.std.proofs.lemmas.Bool.Decides.{nat_tests}
 use Rattle.std.proofs.lemmas.Nat.{mod-mul-add}
-use Rattle.level.specs.Element.{Element, plus, zeros}
+use Rattle.level.specs.Element.{Element, plus}
 use Rattle.level.specs.Laws.{Arithmetic, Laws}
 use Rattle.multilinear.specs.Sums.{sum, where_set}
 use Rattle.level.proofs.Elements.{plus_zeros, zeros_plus}
 use Rattle.level.proofs.Ring.{times_zeros}
 use Rattle.multilinear.proofs.Sums.{sum_same, sum_rows, sum_plus, times_where}
 use Rattle.multilinear.proofs.Windows.{sum_single}
-use Rattle.tensor_algebra.specs.Tensor.{Tensor, exterior, scale_columns}
-use Rattle.tensor_algebra.specs.Buckets.{ColumnsAreScaled}
+use Rattle.tensor_algebra.specs.Tensor.{exterior, scale_columns}
 use Rattle.tensor_algebra.proofs.BucketSums.{columns_are_scaled}
 use Rattle.ring_switch.specs.Claims.{tensor, carry, last, starts, ends}
 use Rattle.ring_switch.proofs.ColumnsBounds.{shift_mod, pow_multiple, starts_split}

@@ -1,20 +1,19 @@
 -- The tensors of an opened table, from those of its slot.
-use Rattle.std.proofs.Common.{◌≡◌, ℕ, ◌+◌, ◌-◌, ◌*◌, ◌^◌, ◌<◌, ◌≤◌, not, List, length, take, drop, Some, sym, refl, ap, ◌∙◌, subst, arith}
+use Rattle.std.proofs.Common.{◌≡◌, ℕ, ◌+◌, ◌-◌, ◌*◌, ◌^◌, ◌<◌, ◌≤◌, not, List, length, take, drop, Some, sym, ap, ◌∙◌, arith}
 use mathlib.Core.Path.{fun_ext}
 use Rattle.level.specs.Element.{Element}
 use Rattle.level.specs.Laws.{Arithmetic, Laws}
 use Rattle.multilinear.specs.Cells.{packed}
-use Rattle.multilinear.specs.Equality.{Point, entry, equality}
+use Rattle.multilinear.specs.Equality.{Point, equality}
 use Rattle.multilinear.specs.Lent.{lent}
 use Rattle.multilinear.specs.Sums.{where_set}
 use Rattle.multilinear.proofs.Sums.{sum_same}
 use Rattle.tensor_algebra.specs.Tensor.{Tensor, exterior}
-use Rattle.ring_switch.specs.Opening.{View, rest, slot_start}
+use Rattle.ring_switch.specs.Opening.{View, rest}
 use Rattle.ring_switch.specs.Claims.{tensor, carry, last, starts, ends}
 use Rattle.ring_switch.specs.ClaimLaws.{opened, opened_carry, opened_last}
-use Rattle.ring_switch.specs.Slots.{packed_count, slot_count, in_slot}
+use Rattle.ring_switch.specs.Slots.{in_slot}
 use Rattle.ring_switch.proofs.SlotTensors.{slot, stepped_slot}
-use Rattle.equality.specs.Tables.{Factors}
 use Rattle.folding.specs.Openings.{Opens}
 use Rattle.folding.proofs.Folds.{lent_part}
 use Rattle.folding.proofs.Slots.{size_is}

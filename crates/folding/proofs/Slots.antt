@@ -1,24 +1,22 @@
 -- The tensors of a slot whose equality table is held in two factors, from what the folds over blocks and columns leave.
-use Rattle.std.proofs.Common.{◌≡◌, ℕ, zero, suc, ◌+◌, ◌-◌, ◌*◌, ◌/◌, ◌%◌, ◌^◌, ◌<◌, ◌≤◌, Bool, true, false, not, eqb, List, length, get_or, sym, refl, ap, ◌∙◌, subst, ap₂, zero-mul, arith, pow_pos, pow-add}
+use Rattle.std.proofs.Common.{◌≡◌, ℕ, zero, suc, ◌+◌, ◌-◌, ◌*◌, ◌^◌, ◌<◌, ◌≤◌, Bool, true, false, not, eqb, List, length, sym, ap, ◌∙◌, subst, ap₂, zero-mul, arith, pow-add}
 use mathlib.Core.Path.{fun_ext}
 use native.Mathlib.Nat.{zero-mod}
-use Rattle.std.proofs.lemmas.Nat.{div-add-mod'}
-use Rattle.level.specs.Element.{Element, plus, zeros}
+use Rattle.level.specs.Element.{Element, plus}
 use Rattle.level.specs.Laws.{Arithmetic, Laws}
 use Rattle.level.proofs.Elements.{plus_zeros, plus_comm}
 use Rattle.multilinear.specs.Sums.{sum, where_set}
-use Rattle.multilinear.specs.Equality.{Point, entry, equality, outer, inner, inner_count}
+use Rattle.multilinear.specs.Equality.{Point, entry, outer, inner, inner_count}
 use Rattle.multilinear.specs.Lent.{lent}
 use Rattle.multilinear.proofs.Entries.{factored}
-use Rattle.multilinear.proofs.Lent.{lent_read}
 use Rattle.multilinear.proofs.Sums.{sum_same, sum_plus}
-use Rattle.equality.specs.Tables.{Tabulated, Factors}
+use Rattle.equality.specs.Tables.{Factors}
 use Rattle.equality.proofs.Factoring.{block_entry}
 use Rattle.tensor_algebra.specs.Tensor.{Tensor, nothing, exterior, add, scale_columns}
 use Rattle.ring_switch.specs.Claims.{tensor, carry, last, starts}
 use Rattle.folding.specs.Folds.{block, with_all, entering}
 use Rattle.folding.proofs.Blocks.{InFactors, shifted, tensor_blocks, carry_blocks, last_columns}
-use Rattle.folding.proofs.Folds.{all_none, all_more, all_from_nothing}
+use Rattle.folding.proofs.Folds.{all_from_nothing}
 
 module _ {X : Type 0} {k : ℕ} (means : X → Element k) {A : Arithmetic k} (laws : Laws A) (outers inners : List X) (s : Element k) (p : Point k)
     (f : Factors means A s p outers inners) where

@@ -2,7 +2,7 @@
 use Rattle.std.proofs.Common.{◌≡◌, ℕ, zero, suc, ◌+◌, ◌*◌, ◌<◌, Bool, true, false, sym, refl, ap, ◌∙◌, ap₂, add-zero, add-suc, suc-mul, zero-mul, arith}
 use Rattle.level.specs.Element.{Element, plus, zeros}
 use Rattle.level.specs.Laws.{Arithmetic, Laws}
-use Rattle.level.proofs.Elements.{plus_assoc, plus_comm, plus_zeros, zeros_plus, plus_left_comm, plus_self}
+use Rattle.level.proofs.Elements.{plus_assoc, plus_comm, plus_zeros, zeros_plus, plus_left_comm}
 use Rattle.level.proofs.Ring.{times_zeros, plus_times, zeros_times}
 use Rattle.multilinear.specs.Sums.{sum, where_set, at_bit}
 

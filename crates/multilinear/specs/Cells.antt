@@ -1,5 +1,5 @@
 -- A table of bits held in bytes, its packing into elements, and the same bits one row on.
-use Rattle.std.specs.Prelude.{ℕ, zero, suc, ◌+◌, ◌-◌, ◌*◌, ◌/◌, ◌%◌, ◌^◌, ◌<◌, cond, List, ◌==◌, slice_index}
+use Rattle.std.specs.Prelude.{ℕ, zero, suc, ◌+◌, ◌-◌, ◌*◌, ◌/◌, ◌%◌, ◌^◌, cond, List, ◌==◌, slice_index}
 use Rattle.level.specs.Element.{Element, width, zeros}
 use Rattle.level.specs.Laws.{Arithmetic}
 use Rattle.multilinear.specs.Gathered.{binary, binary_fits}

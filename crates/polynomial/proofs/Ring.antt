@@ -1,7 +1,7 @@
 -- The polynomials modulo the modulus show the laws of a level: the sides of a law are linear in each element, so it holds where it
 -- holds of the powers of X below 8.
 use mathlib.Core.Path.{◌≡◌}
-use Prim.Native.Nat.{ℕ, ◌%◌, ◌^◌, ◌<◌}
+use Prim.Native.Nat.{ℕ, ◌^◌, ◌<◌}
 use Rattle.level.specs.Element.{cut, plus}
 use Rattle.level.specs.Laws.{Laws}
 use Rattle.level.proofs.Elements.{same}

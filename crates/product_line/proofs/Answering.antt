@@ -5,7 +5,7 @@ use Rattle.std.proofs.lemmas.List.{drop_more, take_rest}
 use Rattle.product_line.specs.Lines.{Product, BadRest}
 use Rattle.level_name.specs.Names.{named, log_of, arithmetic_of}
 use Rattle.level_name.specs.declared.LevelName.{LevelName}
-use Rattle.product_line.specs.Letters.{Answer, Refused, BadLine}
+use Rattle.product_line.specs.Letters.{Answer, BadLine}
 use Rattle.product_line.specs.declared.line.LineFault.{LineFault}
 use Rattle.product_line.specs.declared.line.LineFault.TheVariants.{Letter, Shape, Digit, Memory}
 

@@ -1,7 +1,7 @@
 -- A rest of a line by its places, and by its two operands.
-use Rattle.std.proofs.Common.{◌≡◌, ℕ, zero, suc, ◌+◌, ◌-◌, ◌*◌, ◌<◌, ◌≤◌, Bool, true, false, ◌&&◌, eqb, List, [], ◌∷◌, ◌++◌, length, get_or, take, drop, sym, refl, ap, ◌∙◌, ap₂, arith}
+use Rattle.std.proofs.Common.{◌≡◌, ℕ, ◌+◌, ◌*◌, ◌<◌, true, List, ◌∷◌, ◌++◌, length, get_or, take, drop, sym, ap, ◌∙◌, ap₂, arith}
 use Rattle.std.proofs.lemmas.Bool.Decides.{nat_tests}
-use Rattle.std.proofs.lemmas.List.{take-append-drop, drop_more, length-append, length-take-le, length-drop, take_all, drop_all, get_or-drop, get_or-take, get_or_at, drop-drop}
+use Rattle.std.proofs.lemmas.List.{take-append-drop, drop_more, length-append, length-take-le, length-drop, take_all, get_or_at, drop-drop}
 use Rattle.product_line.specs.Lines.{Operands, shaped}
 
 pub places : (n : ℕ) (rest : List ℕ) → shaped n rest ≡ true → (length rest ≡ 2 * n + 2) × (get_or rest 0 0 ≡ 32) × (get_or rest (n + 1) 0 ≡ 32)

@@ -1,5 +1,5 @@
 -- The text of a report, step by step, where a step's values are formed after its tests.
-use Rattle.std.proofs.Common.{◌≡◌, ℕ, ◌+◌, ◌-◌, ◌*◌, ◌/◌, ◌^◌, ◌<◌, ◌≤◌, min, max, eqb, ltb, List, ◌++◌, length, Some, None, Option, sym, refl, ap, ◌∙◌, subst, ap₂, mul-div_cancel, arith, lit<, pow_pos, pow-add}
+use Rattle.std.proofs.Common.{◌≡◌, ℕ, ◌+◌, ◌-◌, ◌*◌, ◌/◌, ◌^◌, ◌<◌, ◌≤◌, min, eqb, ltb, List, ◌++◌, length, Some, None, Option, ap, ◌∙◌, subst, ap₂, mul-div_cancel, arith, lit<, pow_pos, pow-add}
 use lib.Pow.{pow-lt}
 use Rattle.std.proofs.lemmas.List.{append_assoc}
 use Rattle.std.proofs.lemmas.Bool.{ltb-false, eqb-true}

@@ -1,7 +1,6 @@
 -- The steps of a reduction.
-use Rattle.std.proofs.Common.{◌≡◌, ℕ, ◌*◌, ◌/◌, ◌^◌, ◌<◌, ◌≤◌, max, List, Option, sym, ap, ◌∙◌, mul-div_cancel, arith}
+use Rattle.std.proofs.Common.{◌≡◌, ℕ, ◌*◌, ◌/◌, ◌<◌, List, Option, ap, ◌∙◌, mul-div_cancel, arith}
 use Rattle.level.specs.Element.{Element}
-use Rattle.level.specs.Laws.{Arithmetic}
 use Rattle.multilinear.specs.Cells.{cell}
 use Rattle.ring_switch.specs.ClaimLaws.{Binary}
 use Rattle.ring_switch.specs.Opening.{Prefix}

@@ -9,7 +9,6 @@ use Rattle.multilinear.specs.Cells.{packed}
 use Rattle.multilinear.specs.Equality.{Point, inner}
 use Rattle.multilinear.specs.Lent.{lent}
 use Rattle.ring_switch.specs.Opening.{View, kept, low, rest, slot_start}
-use Rattle.ring_switch.specs.Slots.{packed_count}
 use Rattle.ring_switch.proofs.SlotPrefix.{low_length}
 use Rattle.ring_switch.proofs.SlotTensors.{slot, stepped_slot}
 use Rattle.ring_switch.proofs.ColumnsBounds.{pow_mod}

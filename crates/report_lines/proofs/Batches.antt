@@ -1,6 +1,6 @@
 -- The batching of an opening's slot.
-use Rattle.std.proofs.Common.{◌≡◌, ℕ, ◌-◌, ◌<◌, ◌≤◌, Bool, true, false, cond, not, ◌&&◌, ltb, length, is_some, Some, None, Option, sym, refl, ap, ◌∙◌, subst, arith}
-use Rattle.std.proofs.lemmas.Bool.{ltb-true, ltb-false}
+use Rattle.std.proofs.Common.{◌≡◌, ℕ, ◌-◌, ◌≤◌, Bool, true, false, cond, not, ◌&&◌, ltb, length, is_some, Some, None, Option, sym, refl, ap, ◌∙◌, subst, arith}
+use Rattle.std.proofs.lemmas.Bool.{ltb-false}
 use Rattle.level.specs.Element.{Element}
 use Rattle.level.specs.Laws.{Arithmetic, Laws}
 use Rattle.multilinear.specs.Equality.{Point, equality}
@@ -9,8 +9,8 @@ use Rattle.ring_switch.specs.Batching.{Stepping, initial_sum}
 use Rattle.ring_switch.specs.BatchingLaws.{RowsWithin}
 use Rattle.ring_switch.specs.ClaimLaws.{opened, opened_carry, opened_last}
 use Rattle.ring_switch.proofs.SlotTensors.{stepped_slot}
-use Rattle.refusals.specs.Steps.{told, opening}
-use Rattle.plain.specs.Openings.{named, stepped_rows, SlotOf, InitialSumOf}
+use Rattle.refusals.specs.Steps.{opening}
+use Rattle.plain.specs.Openings.{named, stepped_rows, InitialSumOf}
 use Rattle.report_lines.specs.Batched.{stepped, batch_refusal, Batching, slot_batching}
 use Rattle.report_lines.proofs.Passed.{passed}
 

@@ -1,5 +1,5 @@
 -- The text of a report, step by step.
-use Rattle.std.proofs.Common.{◌≡◌, ℕ, ◌^◌, Bool, List, ◌++◌, length, is_some, Some, None, Option, sym, refl, ap, ◌∙◌, ap₂}
+use Rattle.std.proofs.Common.{◌≡◌, ℕ, ◌^◌, Bool, List, ◌++◌, length, is_some, Some, None, Option, sym, ap, ◌∙◌, ap₂}
 use Rattle.std.proofs.lemmas.List.{append_assoc}
 use Rattle.level.specs.Laws.{Arithmetic}
 use Rattle.multilinear.specs.Cells.{cell}

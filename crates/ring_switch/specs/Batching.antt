@@ -1,6 +1,6 @@
 -- Batching: the weights of the packed elements of a slot, the initial sum and the closing value.
-use Rattle.std.specs.Prelude.{ℕ, zero, suc, ◌+◌, ◌-◌, ◌*◌, ◌%◌, ◌^◌, Bool, true, false, not, List, length, take, drop, Some, None, Option}
-use Rattle.level.specs.Element.{Element, plus, zeros}
+use Rattle.std.specs.Prelude.{ℕ, ◌-◌, not, length, take, drop, Some, None, Option}
+use Rattle.level.specs.Element.{Element, plus}
 use Rattle.level.specs.Laws.{Arithmetic}
 use Rattle.multilinear.specs.Sums.{where_set}
 use Rattle.multilinear.specs.Equality.{Point, equality}

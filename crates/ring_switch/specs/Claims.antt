@@ -1,6 +1,6 @@
 -- The tensors of an opened table, and the claims that they answer.
-use Rattle.std.specs.Prelude.{ℕ, zero, suc, ◌+◌, ◌-◌, ◌*◌, ◌%◌, ◌^◌, Bool, true, false, not, length, Some, None, Option, ◌==◌, nat_lt}
-use Rattle.level.specs.Element.{Element, width, plus, zeros}
+use Rattle.std.specs.Prelude.{ℕ, ◌-◌, ◌%◌, ◌^◌, Bool, true, false, not, ◌==◌, nat_lt}
+use Rattle.level.specs.Element.{Element, width, plus}
 use Rattle.level.specs.Laws.{Arithmetic}
 use Rattle.multilinear.specs.Sums.{sum, where_set}
 use Rattle.multilinear.specs.Equality.{Point, equality}

@@ -1,5 +1,5 @@
 -- The opening of a packed table at a point: its high and low coordinates, the view, and the slot that leading zeros and ones select.
-use Rattle.std.specs.Prelude.{ℕ, zero, suc, ◌+◌, ◌-◌, ◌*◌, ◌^◌, min, Bool, true, false, cond, List, [], ◌∷◌, length, take, drop, Some, None, Option, ◌==◌, nat_lt}
+use Rattle.std.specs.Prelude.{ℕ, zero, suc, ◌+◌, ◌-◌, ◌*◌, ◌^◌, min, cond, [], ◌∷◌, length, take, drop, Some, None, Option, ◌==◌, nat_lt}
 use Rattle.level.specs.Element.{Element}
 use Rattle.level.specs.Laws.{Arithmetic}
 use Rattle.multilinear.specs.Equality.{Point}

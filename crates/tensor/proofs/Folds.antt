@@ -6,7 +6,6 @@ use Rattle.std.proofs.lemmas.List.{drop_all, drop_more}
 use Rattle.level.specs.Element.{Element, plus, zeros}
 use Rattle.level.specs.Laws.{Arithmetic, Laws}
 use Rattle.level.proofs.Elements.{zeros_plus}
-use Rattle.multilinear.specs.Lent.{lent}
 use Rattle.multilinear.specs.Equality.{Point, equality}
 use Rattle.multilinear.specs.Sums.{sum}
 use Rattle.multilinear.proofs.Lent.{lent_read}

@@ -1,5 +1,5 @@
 -- Tensors row by row: what their definitions have at one row, and past the last.
-use Rattle.std.proofs.Common.{◌≡◌, ℕ, suc, ◌+◌, ◌/◌, ◌%◌, ◌^◌, ◌<◌, ◌≤◌, sym, refl, ap, ◌∙◌, ap₂, arith}
+use Rattle.std.proofs.Common.{◌≡◌, ℕ, ◌<◌, ◌≤◌, sym, refl, ap, ◌∙◌, ap₂, arith}
 use mathlib.Core.Path.{fun_ext}
 use Rattle.level.specs.Element.{Element, width, coordinate, plus, zeros}
 use Rattle.level.specs.Laws.{Arithmetic, Laws}
@@ -7,7 +7,7 @@ use Rattle.level.proofs.Elements.{plus_zeros, zeros_plus}
 use Rattle.level.proofs.Ring.{times_zeros}
 use Rattle.multilinear.specs.Sums.{at_bit}
 use Rattle.multilinear.proofs.Coordinates.{coordinate_past}
-use Rattle.tensor_algebra.specs.Tensor.{Tensor, nothing, exterior, add, one, scale_rows}
+use Rattle.tensor_algebra.specs.Tensor.{Tensor, nothing, exterior, add, scale_rows}
 
 module _ {k : ℕ} where
   pub nothing_is : (u : ℕ) → nothing {k = k} u ≡ zeros k

@@ -1,18 +1,16 @@
 -- One turn of the loops over rows, and what they end with.
 use Rattle.std.proofs.Common.{◌≡◌, ℕ, zero, suc, ◌+◌, ◌-◌, ◌*◌, ◌/◌, ◌%◌, ◌^◌, ◌<◌, ◌≤◌, min, ◌≢◌, List, length, get_or, set, sym, refl, ap, ◌∙◌, ap₂, ⊎_elim, add-one, arith, pow_mono}
-use mathlib.Core.Path.{fun_ext}
 use Rattle.std.proofs.lemmas.Nat.{shr-shr}
 use Rattle.std.proofs.lemmas.Bool.{cases_eq, cases_lt}
 use Rattle.level.specs.Bytes.{sixteen}
 use Rattle.level.specs.Element.{Element, width, coordinate, plus, zeros}
 use Rattle.level.specs.Laws.{Arithmetic, Laws}
 use Rattle.level.proofs.Digits.{bytes_are_coordinates}
-use Rattle.level.proofs.Elements.{zeros_plus}
 use Rattle.multilinear.specs.Lent.{lent}
 use Rattle.multilinear.specs.Sums.{sum, at_bit}
 use Rattle.multilinear.proofs.Lent.{lent_read, lent_written, lent_kept}
-use Rattle.tensor_algebra.specs.Tensor.{Tensor, nothing, exterior, add, one, scale_rows, batch_rows}
-use Rattle.tensor_rows.proofs.Places.{Written, lent_past, written_none, written_read, written_more, written_all}
+use Rattle.tensor_algebra.specs.Tensor.{nothing, exterior, add, one, scale_rows, batch_rows}
+use Rattle.tensor_rows.proofs.Places.{Written, lent_past, written_read, written_more, written_all}
 use Rattle.tensor_rows.proofs.Tensors.{add_past, scale_rows_past, exterior_past, nothing_add}
 
 -- the coordinates of byte j stand in an element

@@ -1,5 +1,5 @@
 -- Settled weights written block by block.
-use Rattle.std.proofs.Common.{◌≡◌, ℕ, zero, suc, ◌+◌, ◌-◌, ◌*◌, ◌/◌, ◌%◌, ◌^◌, ◌<◌, ◌≤◌, not, ◌⊎◌, List, ◌++◌, map, length, get_or, take, drop, Some, None, Option, sym, refl, ap, ◌∙◌, subst, ap₂, inl, inr, div-add-mod', arith}
+use Rattle.std.proofs.Common.{◌≡◌, ℕ, ◌+◌, ◌-◌, ◌*◌, ◌/◌, ◌%◌, ◌^◌, ◌<◌, ◌≤◌, not, List, ◌++◌, map, length, get_or, take, drop, Some, None, Option, sym, refl, ap, ◌∙◌, subst, ap₂, div-add-mod', arith}
 use native.Mathlib.Decide.{ℕ_discrete}
 use borrow.Rule.Slice.PartMut.{put_mid}
 use lib.ListN.{length-map}
@@ -11,12 +11,11 @@ use Rattle.multilinear.specs.Lent.{lent}
 use Rattle.multilinear.specs.Sums.{where_set}
 use Rattle.multilinear.proofs.Lent.{lent_read}
 use Rattle.tensor_algebra.specs.Tensor.{subset_sum}
-use Rattle.tensor_algebra.specs.Subsets.{SubsetSumsAreLinear}
 use Rattle.ring_switch.specs.Claims.{starts, ends}
 use Rattle.ring_switch.specs.Batching.{Stepping, settled, weight}
 use Rattle.weights.specs.Stepped.{stepped}
 use Rattle.tensor_algebra.proofs.SubsetSums.{subset_sums_are_linear}
-use Rattle.basis.specs.Tables.{Tabulated, scaled}
+use Rattle.basis.specs.Tables.{scaled}
 use Rattle.equality.specs.Tables.{Factors}
 use Rattle.equality.proofs.Factoring.{within, block_entry}
 use Rattle.folding.proofs.Folds.{block_within}

@@ -1,7 +1,7 @@
 -- The worked cases, by computing.
-use Rattle.std.proofs.Common.{◌≡◌, refl}
+use Rattle.std.proofs.Common.{refl}
 use lib.Count.{ones, ones_in}
-use Rattle.level.specs.Element.{Element, cut, plus, zeros}
+use Rattle.level.specs.Element.{cut, plus, zeros}
 use Rattle.doubling.specs.Doubled.{tower, doubled, low, high, join}
 use Rattle.polynomial.specs.Polynomial.{polynomial, reduced, divided, product as poly-product, rows}
 use Rattle.multilinear.specs.Sums.{sum, at_bit, where_set}

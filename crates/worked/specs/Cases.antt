@@ -1,5 +1,5 @@
 -- Products and small tables worked by hand: at the tower byte, and one product at the polynomial byte.
-use Rattle.std.specs.Prelude.{◌≡◌, ℕ, zero, suc, ◌-◌, ◌^◌, List, [], ◌∷◌, ◌++◌, map, length, Some, None, Option}
+use Rattle.std.specs.Prelude.{◌≡◌, ℕ, ◌-◌, ◌^◌, List, [], ◌∷◌, map, length, Some, Option}
 use Rattle.level.specs.Element.{Element, cut}
 use Rattle.doubling.specs.Doubled.{tower}
 use Rattle.polynomial.specs.Polynomial.{polynomial}

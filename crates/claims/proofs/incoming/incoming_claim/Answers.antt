@@ -1,4 +1,3 @@
-use Rattle.std.proofs.Common.{rules}
 use Rattle.claims.proofs.Weighing.{incoming_value}
 use Rattle.claims.proofs.incoming.incoming_claim.Goals as goal
 

@@ -1,4 +1,4 @@
-use Rattle.std.proofs.Common.{◌≡◌, ℕ, List, ◌++◌, map, length, vec_items, string_bytes, Vec, sym, ap, ◌∙◌, subst}
+use Rattle.std.proofs.Common.{◌++◌, map, length, vec_items, string_bytes, Vec, sym, ap, ◌∙◌, subst}
 use lib.ListN.{length-map}
 use Rattle.std.proofs.lemmas.Result.{err_from_is_err_and}
 use Rattle.std.specs.declared.alloc.Global.{Global}

@@ -1,8 +1,8 @@
-use Rattle.std.proofs.Common.{◌≡◌, ℕ, ◌*◌, ◌%◌, ◌^◌, ◌≤◌, List, ◌++◌, map, length, string_bytes, sym, ap, ◌∙◌, subst, arith}
+use Rattle.std.proofs.Common.{ℕ, ◌*◌, ◌^◌, ◌≤◌, List, length, string_bytes, sym, ap, ◌∙◌, subst, arith}
 use Rattle.std.proofs.lemmas.Nat.{one_shl}
 use Rattle.std.proofs.lemmas.Result.{err_from_is_err_and}
 use Rattle.problem.specs.Task.{task_of}
-use Rattle.report_lines.specs.Report.{Reported, opened_text, variables_of}
+use Rattle.report_lines.specs.Report.{Reported, variables_of}
 use Rattle.report_lines.proofs.Packed.{few, variables_are, cells_few}
 use Rattle.report_lines.proofs.Reporting.{packing_refused, packing_passed}
 use Rattle.explanation.proofs.report.problem_lines.Goals as goal

@@ -1,4 +1,4 @@
-use Rattle.std.proofs.Common.{◌≡◌, ◌*◌, ◌<◌, length, sym, ap, ◌∙◌, arith, rules}
+use Rattle.std.proofs.Common.{◌≡◌, ◌*◌, ◌<◌, length, sym, ap, ◌∙◌, arith}
 use Rattle.multilinear.specs.Lent.{lent}
 use Rattle.folding.proofs.Folds.{all_none, block_within, block_more, length_part}
 use Rattle.folding.proofs.block.add_blocks.Goals as goal

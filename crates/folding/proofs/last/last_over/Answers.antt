@@ -1,8 +1,7 @@
-use Rattle.std.proofs.Common.{◌≡◌, ◌+◌, ◌-◌, ◌*◌, ◌/◌, ◌^◌, ◌<◌, ◌≤◌, length, sym, ap, ◌∙◌, arith, pow_pos, rules}
+use Rattle.std.proofs.Common.{◌≡◌, ◌+◌, ◌-◌, ◌*◌, ◌/◌, ◌^◌, ◌<◌, length, sym, ap, ◌∙◌, arith, pow_pos, rules}
 use Rattle.multilinear.specs.Lent.{lent}
 use Rattle.multilinear.specs.Equality.{entry}
 use Rattle.tensor_algebra.specs.Tensor.{exterior, add}
-use Rattle.folding.specs.Folds.{with_all}
 use Rattle.folding.proofs.Folds.{all_none, all_more, column_within, whole_columns}
 use Rattle.folding.proofs.Slots.{last_made}
 use Rattle.folding.proofs.last.last_over.Goals as goal

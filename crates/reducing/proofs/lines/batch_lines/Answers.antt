@@ -1,4 +1,4 @@
-use Rattle.std.proofs.Common.{◌≡◌, ℕ, ◌^◌, ◌<◌, List, ◌++◌, map, length, vec_items, string_bytes, codes, sym, ap, ◌∙◌, subst}
+use Rattle.std.proofs.Common.{◌≡◌, ℕ, ◌^◌, ◌<◌, List, ◌++◌, map, length, string_bytes, codes, sym, ap, ◌∙◌, subst}
 use lib.ListN.{length-map}
 use Rattle.element_text.specs.Hex.{element_text}
 use Rattle.multilinear.specs.Lent.{lent}

@@ -1,9 +1,7 @@
-use Rattle.std.proofs.Common.{◌≡◌, ℕ, ◌-◌, ◌^◌, ◌<◌, ◌≤◌, List, ◌++◌, map, length, None, vec_items, string_bytes, sym, refl, ap, ◌∙◌, subst, arith}
+use Rattle.std.proofs.Common.{◌≡◌, ◌-◌, ◌^◌, List, map, length, None, vec_items, string_bytes, sym, refl, ap, ◌∙◌, subst, arith}
 use lib.ListN.{length-map}
 use Rattle.std.proofs.lemmas.Result.{err_from_is_err_and}
-use Rattle.std.proofs.lemmas.Bool.{eqb-true}
 use Rattle.multilinear.specs.Cells.{cell}
-use Rattle.plain.specs.Openings.{named}
 use Rattle.problem.specs.Task.{task_of}
 use Rattle.refusals.specs.Steps.{told, opening, width}
 use Rattle.report_lines.specs.Opened.{open_refusal}
@@ -13,7 +11,6 @@ use Rattle.report_lines.proofs.Passed.{both_passed, short_point}
 use Rattle.report_lines.proofs.Reporting.{opening_refused}
 use Rattle.reduction.specs.Worked.{Worked}
 use Rattle.reducing.proofs.Reports.{opened_passed, absorbed_point, matched_width}
-use Rattle.reducing.proofs.report.opened_lines.Given as given
 use Rattle.reducing.proofs.report.opened_lines.Goals as goal
 use Rattle.reducing.proofs.report.opened_lines.Goals.{In_ok-check_open}
 

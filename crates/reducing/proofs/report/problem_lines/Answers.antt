@@ -1,4 +1,4 @@
-use Rattle.std.proofs.Common.{◌≡◌, ℕ, ◌*◌, ◌%◌, ◌^◌, ◌<◌, ◌≤◌, List, ◌++◌, map, length, vec_items, string_bytes, codes, sym, refl, ap, ◌∙◌, subst, ap₂, arith}
+use Rattle.std.proofs.Common.{◌≡◌, ℕ, ◌*◌, ◌^◌, ◌<◌, ◌≤◌, List, ◌++◌, length, string_bytes, codes, sym, ap, ◌∙◌, subst, ap₂, arith}
 use Rattle.std.proofs.lemmas.Nat.{one_shl}
 use Rattle.std.proofs.lemmas.Result.{err_from_is_err_and}
 use Rattle.element_text.specs.Hex.{element_text}
@@ -6,7 +6,7 @@ use Rattle.multilinear.specs.Cells.{cell, packed}
 use Rattle.multilinear.specs.Lent.{lent}
 use Rattle.problem.specs.Task.{task_of}
 use Rattle.report_lines.specs.Lines.{line}
-use Rattle.report_lines.specs.Report.{Reported, lines_below, packed_line, opened_text, variables_of}
+use Rattle.report_lines.specs.Report.{Reported, lines_below, packed_line, variables_of}
 use Rattle.report_lines.proofs.Packed.{packable, few, variables_are}
 use Rattle.report_lines.proofs.Reporting.{packing_refused, packing_passed}
 use Rattle.report_lines.proofs.Writing.{below_same}

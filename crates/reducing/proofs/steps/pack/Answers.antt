@@ -1,4 +1,4 @@
-use Rattle.std.proofs.Common.{◌≡◌, ◌<◌, length, vec_len, sym, ap, ◌∙◌, arith}
+use Rattle.std.proofs.Common.{length, sym, ap, ◌∙◌, arith}
 use Rattle.multilinear.specs.Lent.{lent}
 use Rattle.reduction.proofs.Filled.{filled}
 use Rattle.reducing.proofs.Stepping.{count_is}

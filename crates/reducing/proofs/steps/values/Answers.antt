@@ -1,4 +1,4 @@
-use Rattle.std.proofs.Common.{◌≡◌, ◌≤◌, map, length, sym, ap, ◌∙◌, subst, arith}
+use Rattle.std.proofs.Common.{◌≤◌, map, length, sym, subst, arith}
 use lib.ListN.{length-map}
 use Rattle.equality.specs.Tables.{Tabulated}
 use Rattle.ring_switch.specs.Opening.{low}

@@ -1,5 +1,4 @@
-use Rattle.std.proofs.Common.{◌≡◌, ℕ, ◌^◌, ◌<◌, map, length, vec_items, sym, ap, ◌∙◌, arith}
-use lib.ListN.{length-map}
+use Rattle.std.proofs.Common.{◌≡◌, ℕ, ◌<◌, map, length, vec_items, ap, ◌∙◌}
 use Rattle.level.specs.Element.{width}
 use Rattle.multilinear.specs.Equality.{equality}
 use Rattle.multilinear.specs.Lent.{lent}

@@ -1,4 +1,4 @@
-use Rattle.std.proofs.Common.{◌≡◌, ◌*◌, length, sym, ap, ◌∙◌, ap₂, subst₂}
+use Rattle.std.proofs.Common.{◌*◌, length, sym, ap, ◌∙◌, ap₂, subst₂}
 use Rattle.multilinear.specs.Lent.{lent}
 use Rattle.equality.specs.Tables.{Factors}
 use Rattle.reduction.proofs.Filled.{filled}

@@ -1,4 +1,4 @@
-use Rattle.std.proofs.Common.{◌≡◌, ◌-◌, ◌<◌, ◌≤◌, map, length, vec_items, refl, ap, ◌∙◌, subst, arith, length-drop}
+use Rattle.std.proofs.Common.{◌-◌, ◌≤◌, map, length, vec_items, refl, ap, ◌∙◌, subst, arith, length-drop}
 use lib.ListN.{length-map}
 use Rattle.equality.specs.Tables.{Tabulated}
 use Rattle.reduction.proofs.Working.{low_map, low_count}

@@ -1,4 +1,4 @@
-use Rattle.std.proofs.Common.{◌≡◌, length, sym, ap, ◌∙◌}
+use Rattle.std.proofs.Common.{length, sym, ap, ◌∙◌}
 use Rattle.multilinear.specs.Lent.{lent}
 use Rattle.reduction.proofs.Filled.{filled}
 use Rattle.reduction.proofs.tensors.last_of.Goals as goal

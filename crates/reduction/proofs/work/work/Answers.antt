@@ -1,4 +1,4 @@
-use Rattle.std.proofs.Common.{◌≡◌, ℕ, ◌≤◌, List, map, length, Some, Option, sym, ap, ◌∙◌, subst, arith}
+use Rattle.std.proofs.Common.{◌≡◌, ℕ, ◌≤◌, map, length, Some, ap, ◌∙◌, subst, arith}
 use lib.ListN.{length-map}
 use Rattle.folding.specs.Openings.{Opens}
 use Rattle.plain.specs.Openings.{named}

@@ -1,4 +1,4 @@
-use Rattle.std.proofs.Common.{◌≡◌, map, length}
+use Rattle.std.proofs.Common.{◌≡◌, map}
 use Rattle.multilinear.specs.Lent.{lent}
 use Rattle.tensor_algebra.specs.Tensor.{nothing, equality_factors}
 use Rattle.tensor.proofs.Folds.{factors_from}

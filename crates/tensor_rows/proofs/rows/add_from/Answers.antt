@@ -1,4 +1,4 @@
-use Rattle.std.proofs.Common.{◌≡◌, ◌+◌, ◌<◌, length, arith}
+use Rattle.std.proofs.Common.{◌+◌, ◌<◌, length, arith}
 use Rattle.tensor_rows.proofs.Turns.{ranged_none, picked_more, halved}
 use Rattle.tensor_rows.proofs.rows.add_from.Goals as goal
 

@@ -1,4 +1,4 @@
-use Rattle.std.proofs.Common.{◌≡◌, ◌+◌, ◌/◌, ◌%◌, ◌^◌, ◌≤◌, min, length, ap, arith}
+use Rattle.std.proofs.Common.{◌+◌, ◌/◌, ◌%◌, ◌^◌, ◌≤◌, min, length, ap, arith}
 use Rattle.std.proofs.lemmas.Nat.{one_shl}
 use Rattle.weights.proofs.Combining.{columns_none, columns_more, columns_all}
 use Rattle.weights.proofs.combined.add_carried.Goals as goal

@@ -1,4 +1,4 @@
-use Rattle.std.proofs.Common.{◌+◌, ◌*◌, ◌<◌, ◌≤◌, length, refl, arith, rules}
+use Rattle.std.proofs.Common.{◌+◌, ◌*◌, ◌≤◌, length, refl, arith, rules}
 use Rattle.folding.proofs.Folds.{block_inside}
 use Rattle.weights.proofs.Settling.{settled_more}
 use Rattle.weights.proofs.settled.settle_blocks.Goals as goal

@@ -1,4 +1,4 @@
-use Rattle.std.proofs.Common.{◌<◌, length, sym, ap, ◌∙◌, subst}
+use Rattle.std.proofs.Common.{◌<◌, sym, ap, ◌∙◌, subst}
 use Rattle.multilinear.specs.Lent.{lent}
 use Rattle.plain.specs.Steps.{steps}
 use Rattle.folding.proofs.Slots.{size_is}
