@@ -3,7 +3,7 @@
 
 usage: python3 tools/respell.py        at the top of the repository, once, right after port.py
 
-It goes by the names that the .antt files declare. Names of goals, which the check makes, keep their spelling, and so do functions of src/,
+It goes by the names that the .antt files declare, and writes the members of a bound by their path (L.means) in clauses. Names of goals, which the check makes, keep their spelling, and so do functions of src/,
 exported names, strings, inputs and outputs. Must-fail edits get the new names too. Names that would fall together with another are in TABLE, with the name that they get.
 It prints what it renamed (with --list), and each place where a new name was there already.
 """
@@ -105,9 +105,36 @@ def rename_modules():
     return moved
 
 
+CLAUSE = re.compile(r"\b(?:requires|ensures)\*?(?: [\w-]+)? \{")
+
+
+def members_by_path(t):
+    """In the clauses of functions over a level L, the trait's members by their path."""
+    out, i = [], 0
+    for m in CLAUSE.finditer(t):
+        if m.start() < i:
+            continue
+        j, depth = m.end(), 1
+        while depth:
+            depth += {"{": 1, "}": -1}.get(t[j], 0)
+            j += 1
+        out += [t[i:m.end()], re.sub(r"(?<![\w.\-])(means|log|arithmetic|ring)(?![\w\-])", r"L.\1", t[m.end():j])]
+        i = j
+    return "".join(out) + t[i:]
+
+
 def main(argv):
     moved = rename_modules()
+    for p in texts(".rt"):
+        t = read(p)
+        # the trait itself names its members bare
+        if re.search(r"\bL: ", t) and not re.search(r"(?m)^pub trait Level\b", t) and members_by_path(t) != t:
+            with open(p, "w", encoding="utf-8") as w:
+                w.write(members_by_path(t))
     names = {n: respelled(n) for n in declared()}
+    if not names:
+        print("respell: nothing is left to respell")
+        return
     back = {}
     for n, m in names.items():
         back.setdefault(m, []).append(n)
