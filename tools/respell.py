@@ -48,8 +48,14 @@ def respelled(n):
 
 
 def declared():
-    """The names that respelling changes, each with the files that declare it."""
+    """The names that respelling changes, each with the files that declare it: also those that an import gives."""
     found = {}
+    for p in texts(".antt", ".rt"):
+        for n in re.findall(r"(?m)^\s*(?:pub )?(?:ghost )?use .*$", read(p)):
+            for a in re.findall(r" as (" + NAME + r")", n):
+                # std's lemmas keep their names
+                if respelled(a) != a and a not in ("div-high",):
+                    found.setdefault(a, set()).add(p)
     for p in texts(".antt"):
         for l in read(p).splitlines():
             m = DECLARED.match(l)

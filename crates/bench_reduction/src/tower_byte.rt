@@ -5,7 +5,7 @@ ghost use Rattle.multilinear.specs.Equality.{Point, entry, inner_count};
 ghost use Rattle.multilinear.specs.Lent.{lent};
 ghost use Rattle.multilinear.specs.Sums.{where_set};
 ghost use Rattle.tensor_algebra.specs.Tensor.{nothing};
-ghost use Rattle.ring_switch.specs.Claims.{starts, tensor as tensor-of, carry as carry-of, last as last_of};
+ghost use Rattle.ring_switch.specs.Claims.{starts, tensor as tensor_of, carry as carry_of, last as last_of};
 ghost use Rattle.ring_switch.specs.Batching.{weight};
 ghost use Rattle.packing.specs.Packing.{Packed};
 ghost use Rattle.equality.specs.Tables.{Factors};
@@ -54,7 +54,7 @@ pub extern "C" fn tensor_tower_byte<'a>(
     requires values { length values.now ≡ length outer.now * length inner.now }
     requires rows { length rows.old ≡ 8 }
     requires scratch { length scratch.old ≡ 264 }
-    ensures rows { (s : Element 3) (p : Point 3) → Factors of.means of.arithmetic s p outer.now inner.now → lent of.means rows.new ≡ tensor-of (2 ^ length p) (entry of.arithmetic s p) (lent of.means values.now) }
+    ensures rows { (s : Element 3) (p : Point 3) → Factors of.means of.arithmetic s p outer.now inner.now → lent of.means rows.new ≡ tensor_of (2 ^ length p) (entry of.arithmetic s p) (lent of.means values.now) }
     ensures scratch { lent of.means scratch.new ≡ nothing }
 {
     tensor_over(values, &FactoredEquality { outer, inner }, rows, scratch);
@@ -76,7 +76,7 @@ pub extern "C" fn carry_tower_byte<'a>(
     requires shifted { length shifted.old ≡ length inner.now }
     requires rows { length rows.old ≡ 8 }
     requires scratch { length scratch.old ≡ 264 }
-    ensures rows { (s : Element 3) (p : Point 3) → Factors of.means of.arithmetic s p outer.now inner.now → lent of.means rows.new ≡ carry-of kept (2 ^ length p) (entry of.arithmetic s p) (lent of.means values.now) }
+    ensures rows { (s : Element 3) (p : Point 3) → Factors of.means of.arithmetic s p outer.now inner.now → lent of.means rows.new ≡ carry_of kept (2 ^ length p) (entry of.arithmetic s p) (lent of.means values.now) }
     ensures shifted { (j : ℕ) → j < length inner.now → lent of.means shifted.new j ≡ where_set (not (starts kept j)) (lent of.means inner.now (j - 1)) }
     ensures scratch { lent of.means scratch.new ≡ nothing }
 {

@@ -1,7 +1,7 @@
 ghost use Rattle.std.specs.Prelude.{◌≡◌};
 ghost use Rattle.level.specs.Element.{cut};
 ghost use Rattle.polynomial.specs.Polynomial.{polynomial};
-ghost use Rattle.byte_levels.specs.PolynomialSteps.{xtime as by_x, multiples as multiples-of};
+ghost use Rattle.byte_levels.specs.PolynomialSteps.{xtime as by_x, multiples as multiples_of};
 ghost use Rattle.polynomial.proofs.Ring.{polynomial_laws};
 
 use crate::bits::{equal, from_sixteen, sum, to_sixteen};
@@ -24,7 +24,7 @@ fn xtime(b: u8) -> u8
 
 // The products of b by 1, X, and so on up to X^7.
 fn multiples(b: u8) -> [u8; 8]
-    ensures { result ≡ multiples-of 8 b }
+    ensures { result ≡ multiples_of 8 b }
 {
     let b1 = xtime(b);
     let b2 = xtime(b1);

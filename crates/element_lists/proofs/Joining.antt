@@ -2,7 +2,7 @@
 use Rattle.std.proofs.Common.{◌≡◌, ℕ, zero, suc, ◌+◌, ◌-◌, ◌*◌, ◌/◌, ◌%◌, ◌<◌, ◌≤◌, List, [], ◌∷◌, ◌++◌, length, get_or, take, drop, sym, refl, ap, ◌∙◌, subst, ap₂, mul-le-mul_right, mod-eq_of_lt, suc-mul, zero-mul, arith}
 use native.Mathlib.Decide.{dec_lt}
 use native.Mathlib.Nat.{add-mod_left}
-use Rattle.std.specs.List.{AllByRecursion as All}
+use Rattle.std.specs.List.{AllByRecursion}
 use Rattle.std.proofs.lemmas.Nat.{div-add-mod', mod-mul-add}
 use Rattle.std.proofs.lemmas.List.{append_assoc, append_cancel_right, length-append, length-drop, length_push, take_all, take-take, take-append-drop, take-append-le, drop-append-le, drop-take, take_more, get_or-drop, get_or_at, get_or_append_left, get_or-append_right}
 use Rattle.level.specs.Element.{Element}
@@ -112,12 +112,12 @@ module _ (n : ℕ) where
   ended_of text [] h e = absurd (omega (arith, ap length e))
   ended_of text (t ∷ ts) h e = ap (λ l. l ++ (32 ∷ [])) e ∙ joined_ended t ts
 
-  length_ended : (ts : List (List ℕ)) → All (λ t. length t ≡ n) ts → length (ended ts) ≡ length ts * (n + 1)
+  length_ended : (ts : List (List ℕ)) → AllByRecursion (λ t. length t ≡ n) ts → length (ended ts) ≡ length ts * (n + 1)
   unfolding ended
   length_ended [] a = sym (zero-mul (n + 1))
   length_ended (t ∷ ts) a = omega (arith, length-append t (32 ∷ ended ts), a.0, length_ended ts a.1, suc-mul (length ts) (n + 1))
 
-  pub right_length : (text : List ℕ) (ts : List (List ℕ)) → All (λ t. length t ≡ n) ts → 0 < length text → text ≡ joined ts → length text % (n + 1) ≡ n
+  pub right_length : (text : List ℕ) (ts : List (List ℕ)) → AllByRecursion (λ t. length t ≡ n) ts → 0 < length text → text ≡ joined ts → length text % (n + 1) ≡ n
   unfolding joined
   right_length text [] a h e = absurd (omega (arith, ap length e))
   right_length text (t ∷ ts) a h e =
@@ -132,7 +132,7 @@ module _ (n : ℕ) where
       ap (λ l. get_or l ((n + 1) + m) 0) (sym (append_assoc t (32 ∷ []) rest))
       ∙ get_or-append_right (t ++ (32 ∷ [])) rest (n + 1) ((n + 1) + m) 0 s (omega arith) ∙ ap (λ j. get_or rest j 0) d
 
-  space_at : (ts : List (List ℕ)) (i : ℕ) → All (λ t. length t ≡ n) ts → i < length ts → get_or (ended ts) (i * (n + 1) + n) 0 ≡ 32
+  space_at : (ts : List (List ℕ)) (i : ℕ) → AllByRecursion (λ t. length t ≡ n) ts → i < length ts → get_or (ended ts) (i * (n + 1) + n) 0 ≡ 32
   unfolding ended
   space_at [] i a h = absurd (omega arith)
   space_at (t ∷ ts) zero a h =
@@ -142,7 +142,7 @@ module _ (n : ℕ) where
       let z : suc i * (n + 1) + n ≡ (n + 1) + (i * (n + 1) + n) = omega (arith, suc-mul i (n + 1)) in
       ap (λ j. get_or (t ++ (32 ∷ ended ts)) j 0) z ∙ past t (ended ts) (i * (n + 1) + n) a.0 ∙ space_at ts i a.1 (omega arith)
 
-  pub no_space : (text : List ℕ) (ts : List (List ℕ)) (i : ℕ) → All (λ t. length t ≡ n) ts → text ≡ joined ts → NoSpace text i n → ⊥
+  pub no_space : (text : List ℕ) (ts : List (List ℕ)) (i : ℕ) → AllByRecursion (λ t. length t ≡ n) ts → text ≡ joined ts → NoSpace text i n → ⊥
   no_space text ts i a e bad = bad.1 (sym (get_or_append_left text (32 ∷ []) 0 _ bad.0) ∙ ap (λ l. get_or l (i * (n + 1) + n) 0) whole ∙ space_at ts i a inside)
     where
       whole : text ++ (32 ∷ []) ≡ ended ts
@@ -160,7 +160,7 @@ module _ (n : ℕ) where
 writes_length : {k : ℕ} {t : List ℕ} {x : Element k} → Writes t x → length t ≡ digits_of k
 writes_length w = ap length w.text_is ∙ length_hex w.bytes ∙ ap (λ m. 2 * m) w.count
 
-pub each_lengths : {k : ℕ} (ts : List (List ℕ)) (xs : List (Element k)) → EachWrites ts xs → All (λ t. length t ≡ digits_of k) ts
+pub each_lengths : {k : ℕ} (ts : List (List ℕ)) (xs : List (Element k)) → EachWrites ts xs → AllByRecursion (λ t. length t ≡ digits_of k) ts
 each_lengths [] xs w = tt
 each_lengths (t ∷ ts) [] w = absurd w
 each_lengths (t ∷ ts) (x ∷ xs) w = (writes_length w.0, each_lengths ts xs w.1)
@@ -206,7 +206,7 @@ bad_text k text i Memory e = tt
 
 pub refused_write_no_elements : RefusedWriteNoElements
 refused_write_no_elements k text xs (Shape digits) m (d, none) w =
-    none w.texts (subst (λ n. All (λ t. length t ≡ n) w.texts) (sym d) (each_lengths w.texts xs w.writes)) w.text_is
+    none w.texts (subst (λ n. AllByRecursion (λ t. length t ≡ n) w.texts) (sym d) (each_lengths w.texts xs w.writes)) w.text_is
 refused_write_no_elements k text xs (Digit place) m (at, _, inside, l, none) w =
     let d = all_digits text xs at w inside l in none d.0 d.1 d.2
 refused_write_no_elements k text xs Memory m e w = m refl

@@ -1,6 +1,6 @@
 -- Lists of elements as text: each element as its text, with single spaces between them.
 use Rattle.std.specs.Prelude.{◌≡◌, ℕ, ◌+◌, ◌*◌, ◌%◌, ◌<◌, ◌≢◌, List, [], ◌∷◌, ◌++◌, length, slice_index}
-use Rattle.std.specs.List.{AllByRecursion as All}
+use Rattle.std.specs.List.{AllByRecursion}
 use Rattle.level.specs.Element.{Element}
 use Rattle.element_text.specs.Hex.{byte_count, Writes, NoDigit}
 use Rattle.element_lists.specs.declared.elements.ElementsFault.{ElementsFault}
@@ -45,7 +45,7 @@ BadElement k text i Memory = ⊥
 
 -- why a text is refused: it is not texts of so many characters with single spaces between them, or a character of one is no digit
 abbrev pub BadElements : ℕ → List ℕ → ElementsFault → Type 0
-BadElements k text (Shape digits) = (digits ≡ digits_of k) × ((ts : List (List ℕ)) → All (λ t. length t ≡ digits) ts → text ≢ joined ts)
+BadElements k text (Shape digits) = (digits ≡ digits_of k) × ((ts : List (List ℕ)) → AllByRecursion (λ t. length t ≡ digits) ts → text ≢ joined ts)
 BadElements k text (Digit place) = NoDigitAt (digits_of k) text place
 BadElements k text Memory = Unit {0}
 

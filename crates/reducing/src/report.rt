@@ -1,5 +1,5 @@
 ghost use Rattle.std.specs.Prelude.{◌≡◌, ℕ, ◌^◌, ◌<◌, ◌≤◌, ◌++◌, map, length, IfOk, Some, string_bytes};
-ghost use Rattle.multilinear.specs.Cells.{cell, packed as packed-element};
+ghost use Rattle.multilinear.specs.Cells.{cell, packed as packed_element};
 ghost use Rattle.multilinear.specs.Lent.{lent};
 ghost use Rattle.plain.specs.Openings.{named};
 ghost use Rattle.problem.specs.Task.{task_of};
@@ -86,7 +86,7 @@ fn opened_lines<L: Level>(
     requires few { variables ≤ 24 }
     requires variables { variables ≡ variables_of L.Level.log (length problem.now.bits.items) }
     requires count { length packed.now ≡ 2 ^ variables }
-    requires elements { (w : ℕ) → w < length packed.now → lent L.means packed.now w ≡ packed-element L.Level.log (cell problem.now.bits.items) w }
+    requires elements { (w : ℕ) → w < length packed.now → lent L.means packed.now w ≡ packed_element L.Level.log (cell problem.now.bits.items) w }
     ensures { Reported result (string_bytes out.new) (string_bytes out.old ++ opened_text L.arithmetic (task_of L.means problem.now)) }
 {
     let point = problem.point.as_slice();

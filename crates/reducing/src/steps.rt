@@ -1,7 +1,7 @@
 ghost use Rattle.std.specs.Prelude.{◌≡◌, ℕ, ◌*◌, ◌<◌, ◌≤◌, map, length, IfOk};
 ghost use Rattle.std.specs.Option.{option_map};
 ghost use Rattle.level.specs.Element.{width};
-ghost use Rattle.multilinear.specs.Cells.{cell, standing, one_row_on, packed as packed-element};
+ghost use Rattle.multilinear.specs.Cells.{cell, standing, one_row_on, packed as packed_element};
 ghost use Rattle.multilinear.specs.Equality.{Point, multilinear};
 ghost use Rattle.ring_switch.specs.Opening.{low};
 ghost use Rattle.multilinear.specs.Lent.{lent};
@@ -33,7 +33,7 @@ pub(crate) fn pack<L: Level>(heap: Global, bits: &[u8], count: usize) -> Result<
     requires level { (3 ≤ L.Level.log) × (L.Level.log ≤ 7) }
     requires count { length bits.now ≡ count * stride L.Level.log }
     ensures count { IfOk result (λ v. length v.items ≡ count) }
-    ensures elements { IfOk result (λ v. (w : ℕ) → w < count → lent L.means v.items w ≡ packed-element L.Level.log (cell bits.now) w) }
+    ensures elements { IfOk result (λ v. (w : ℕ) → w < count → lent L.means v.items w ≡ packed_element L.Level.log (cell bits.now) w) }
 {
     let mut packed = Vec::new(heap);
     packed.resize(count, L::zero())?;

@@ -1,6 +1,6 @@
 ghost use Rattle.std.specs.Prelude.{◌≡◌, ℕ, ◌+◌, ◌-◌, ◌*◌, ◌^◌, ◌<◌, ◌≤◌, map, length, IfOk, Some};
 ghost use Rattle.level.specs.Element.{width};
-ghost use Rattle.multilinear.specs.Cells.{packed as packed-element};
+ghost use Rattle.multilinear.specs.Cells.{packed as packed_element};
 ghost use Rattle.multilinear.specs.Equality.{Point};
 ghost use Rattle.multilinear.specs.Lent.{lent};
 ghost use Rattle.ring_switch.specs.ClaimLaws.{opened_carry, opened_last};
@@ -79,7 +79,7 @@ pub fn work<L: Level>(
     requires short { length point.now < 64 }
     requires rows { named view ≤ length point.now }
     requires elements { length packed.now ≡ 2 ^ (length point.now - L.Level.log) }
-    ensures { IfOk result (λ w. (bits : ℕ → ℕ) → ((i : ℕ) → i < length packed.now → lent L.means packed.now i ≡ packed-element L.Level.log bits i) → Worked L.means L.arithmetic (map L.means point.now) view bits w) }
+    ensures { IfOk result (λ w. (bits : ℕ → ℕ) → ((i : ℕ) → i < length packed.now → lent L.means packed.now i ≡ packed_element L.Level.log bits i) → Worked L.means L.arithmetic (map L.means point.now) view bits w) }
 {
     let (start, coordinates) = slot(point, view);
     let factors = factors_of(heap, coordinates)?;

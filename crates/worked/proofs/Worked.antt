@@ -3,7 +3,7 @@ use Rattle.std.proofs.Common.{refl}
 use lib.Count.{ones, ones_in}
 use Rattle.level.specs.Element.{cut, plus, zeros}
 use Rattle.doubling.specs.Doubled.{tower, doubled, low, high, join}
-use Rattle.polynomial.specs.Polynomial.{polynomial, reduced, divided, product as poly-product, rows}
+use Rattle.polynomial.specs.Polynomial.{polynomial, reduced, divided, product as poly_product, rows}
 use Rattle.multilinear.specs.Sums.{sum, at_bit, where_set}
 use Rattle.multilinear.specs.Gathered.{binary}
 use Rattle.multilinear.specs.Cells.{cell, packed, gather}
@@ -15,7 +15,7 @@ use Rattle.ring_switch.specs.Batching.{settled, weight, successor_rows, initial_
 use Rattle.worked.specs.Cases.{Worked}
 
 pub worked : Worked
-unfolding ones ones_in polynomial reduced divided poly-product rows cut plus zeros tower doubled low high join sum at_bit where_set binary cell packed gather entry factor exterior column add nothing one scale_rows scale_columns equality_factor product equality_element successor_element equality_factors subset_sum batch_rows kept limit selects lead run prefix rest tensor carry last incoming successor_claim by_columns inside across settled weight successor_rows initial_sum carry_element last_element closing_value
+unfolding ones ones_in polynomial reduced divided poly_product rows cut plus zeros tower doubled low high join sum at_bit where_set binary cell packed gather entry factor exterior column add nothing one scale_rows scale_columns equality_factor product equality_element successor_element equality_factors subset_sum batch_rows kept limit selects lead run prefix rest tensor carry last incoming successor_claim by_columns inside across settled weight successor_rows initial_sum carry_element last_element closing_value
 worked = record {
   tower_02_02 = refl;
   tower_02_03 = refl;
