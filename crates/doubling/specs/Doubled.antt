@@ -1,4 +1,4 @@
--- The bit, and the doubling of a level: a low and a high half, with X-as-X = 1 + g·X for the high half's X and the level's generator g.
+-- The bit, and the doubling of a level: a low and a high half, with X·X = 1 + g·X for the high half's X and the level's generator g.
 use Rattle.std.specs.Prelude.{Bool, true, false, ℕ, zero, suc, ◌+◌, ◌*◌, ◌/◌, ◌^◌}
 use Rattle.std.specs.Int.Bits.{bit_and, and_lt}
 use Rattle.level.specs.Element.{Element, width, cut, zeros, plus}

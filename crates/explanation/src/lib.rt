@@ -5,4 +5,4 @@
 pub mod explain;
 pub mod report;
 mod step_lines;
-mod steps;
+pub mod steps;

@@ -44,7 +44,7 @@ fn successor<L: Level>(bits: &[u8], point: &[L], view: Option<usize>) -> Option<
 }
 
 // The values of the opening at a point, where the bytes hold 2^variables packed elements.
-pub(crate) fn open<L: Level>(
+pub fn open<L: Level>(
     bits: &[u8],
     variables: usize,
     point: &[L],
@@ -67,7 +67,7 @@ pub(crate) fn open<L: Level>(
 }
 
 // The batching of an opening's slot, with the initial sum.
-pub(crate) fn batch<'a, L: Level>(
+pub fn batch<'a, L: Level>(
     bits: &[u8],
     point: &'a [L],
     view: Option<usize>,
@@ -96,7 +96,7 @@ pub(crate) fn batch<'a, L: Level>(
 }
 
 // The closing value of a batching at a point.
-pub(crate) fn close<L: Level>(batched: &BatchedSlot<L>, z: &[L]) -> Result<L, BitRingSwitchError>
+pub fn close<L: Level>(batched: &BatchedSlot<L>, z: &[L]) -> Result<L, BitRingSwitchError>
     requires narrow { L.Level.log ≤ 7 }
     requires rows { RowsWithin (steps L.means batched.now.stepping) (length batched.now.slot.now) }
     requires short { length batched.now.slot.now < 64 }

@@ -56,5 +56,6 @@ pub trait Level: Copy {
     fn from_bytes(bytes: [u8; 16]) -> Self
         ensures { means result ≡ from_sixteen log bytes };
 
+    // the law
     ghost ring: { Laws arithmetic };
 }

@@ -5,4 +5,4 @@
 pub mod errors;
 pub mod problem;
 pub mod reading;
-mod words;
+pub mod words;

@@ -31,7 +31,7 @@ fn memory_words(heap: Global) -> Result<String, AllocError>
 }
 
 // The words for an input that is not read at a level.
-pub(crate) fn problem_words(heap: Global, fault: ProblemFault) -> Result<String, AllocError>
+pub fn problem_words(heap: Global, fault: ProblemFault) -> Result<String, AllocError>
     ensures { IfOk result (λ s. string_bytes s ≡ codes "error: " ++ problem_message fault) }
 {
     match fault {

@@ -10,9 +10,9 @@ use Rattle.products.specs.Halves.{Halved, halvings, of_byte, with_bit, ByteRead}
 use Rattle.products.proofs.RowsByHalves.{at_most, highest_row}
 
 -- the rows of the bits from `left` on are read out, after as many halvings
-pub record Reading {k : ℕ} (j left : ℕ) (before after rows_before rows-after : ℕ → Element k) : Type 0 where
-  pub rows : (i : ℕ) → left ≤ i → i < 8 → rows-after (8 * j + i) ≡ with_bit i (of_byte j before)
-  pub other_rows : (u : ℕ) → (u < 8 * j) ⊎ (8 * j + 8 ≤ u) → rows-after u ≡ rows_before u
+pub record Reading {k : ℕ} (j left : ℕ) (before after rows_before rows_after : ℕ → Element k) : Type 0 where
+  pub rows : (i : ℕ) → left ≤ i → i < 8 → rows_after (8 * j + i) ≡ with_bit i (of_byte j before)
+  pub other_rows : (u : ℕ) → (u < 8 * j) ⊎ (8 * j + 8 ≤ u) → rows_after u ≡ rows_before u
   pub buckets : (s : ℕ) → s < 256 → after (256 * j + s) ≡ halvings (8 - left) (of_byte j before) s
   pub other_buckets : (i : ℕ) → (i < 256 * j) ⊎ (256 * j + 256 ≤ i) → after i ≡ before i
 
@@ -75,9 +75,9 @@ module _ {k : ℕ} (j : ℕ) (before rows_before : ℕ → Element k) where
             step.kept b (⊎_elim inl (λ g. inr (omega (arith, room j n half f after halved small size' step w.buckets))) out) ∙ w.other_buckets b out;
       }
 
-  pub reading_ends : (left : ℕ) (after rows-after : ℕ → Element k) → left ≤ 0 → Reading j left before after rows_before rows-after
-      → ByteRead j before after rows_before rows-after
-  reading_ends left after rows-after h w =
+  pub reading_ends : (left : ℕ) (after rows_after : ℕ → Element k) → left ≤ 0 → Reading j left before after rows_before rows_after
+      → ByteRead j before after rows_before rows_after
+  reading_ends left after rows_after h w =
       let e : 8 - left ≡ 8 = omega arith in
       record {
         rows = λ i l. w.rows i (omega arith) l;

@@ -15,8 +15,8 @@ use Rattle.products.specs.Halves.{halvings, of_byte, with_bit, ByteRead}
 use Rattle.products.proofs.Filling.{lent_past}
 
 -- the rows of the bytes below n are read out
-pub record BytesRead {k : ℕ} (n : ℕ) (before after rows-after : ℕ → Element k) : Type 0 where
-  pub rows : (j i : ℕ) → j < n → i < 8 → rows-after (8 * j + i) ≡ with_bit i (of_byte j before)
+pub record BytesRead {k : ℕ} (n : ℕ) (before after rows_after : ℕ → Element k) : Type 0 where
+  pub rows : (j i : ℕ) → j < n → i < 8 → rows_after (8 * j + i) ≡ with_bit i (of_byte j before)
   pub buckets : (j s : ℕ) → j < n → s < 256 → after (256 * j + s) ≡ halvings 8 (of_byte j before) s
   pub left : (i : ℕ) → 256 * n ≤ i → after i ≡ before i
 

@@ -26,9 +26,9 @@ abbrev pub with_bit : {k : ℕ} → ℕ → (ℕ → Element k) → Element k
 with_bit i f = sum 256 (λ s. at_bit (s / 2 ^ i % 2) (f s))
 
 -- The rows of byte j are read out, and its buckets are left halved eight times. Every other row and bucket is left alone.
-pub record ByteRead {k : ℕ} (j : ℕ) (before after rows_before rows-after : ℕ → Element k) : Type 0 where
-  pub rows : (i : ℕ) → i < 8 → rows-after (8 * j + i) ≡ with_bit i (of_byte j before)
-  pub other_rows : (u : ℕ) → (u < 8 * j) ⊎ (8 * j + 8 ≤ u) → rows-after u ≡ rows_before u
+pub record ByteRead {k : ℕ} (j : ℕ) (before after rows_before rows_after : ℕ → Element k) : Type 0 where
+  pub rows : (i : ℕ) → i < 8 → rows_after (8 * j + i) ≡ with_bit i (of_byte j before)
+  pub other_rows : (u : ℕ) → (u < 8 * j) ⊎ (8 * j + 8 ≤ u) → rows_after u ≡ rows_before u
   pub buckets : (s : ℕ) → s < 256 → after (256 * j + s) ≡ halvings 8 (of_byte j before) s
   pub other_buckets : (i : ℕ) → (i < 256 * j) ⊎ (256 * j + 256 ≤ i) → after i ≡ before i
 

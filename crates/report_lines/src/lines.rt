@@ -10,7 +10,7 @@ use level::level::Level;
 use std::alloc::{AllocError, Global};
 
 // Adds the line of a word and a text.
-pub(crate) fn text_line(
+pub fn text_line(
     heap: Global,
     out: &mut String,
     word: &str,
