@@ -31,6 +31,7 @@ pub fn byte_count<L: Level>() -> usize
 }
 
 // The text of an element.
+#[tactic(auto, unfolding(crate::specs::Hex::element_text))]
 pub fn element_text<L: Level>(heap: Global, x: L) -> Result<String, AllocError>
     ensures { IfOk result (λ s. string_bytes s ≡ element_text (L.means x)) }
 {
