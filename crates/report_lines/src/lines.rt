@@ -10,12 +10,7 @@ use level::level::Level;
 use std::alloc::{AllocError, Global};
 
 // Adds the line of a word and a text.
-pub fn text_line(
-    heap: Global,
-    out: &mut String,
-    word: &str,
-    text: &str,
-) -> Result<(), AllocError>
+pub fn text_line(heap: Global, out: &mut String, word: &str, text: &str) -> Result<(), AllocError>
     ensures { OnOk result (string_bytes out.new ≡ string_bytes out.old ++ line word.now text.now) }
 {
     let line = format!(in heap; "{word} {text}\n")?;
