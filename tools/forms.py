@@ -96,9 +96,9 @@ def main():
                 found["1b numbers and characters for a kind"].append(place)
             if re.match(r"^pub enum ", line) and not re.search(r"Debug.*PartialEq", lines[n - 2]):
                 found["1c enums without Debug and PartialEq"].append(place)
-            if re.match(r"^\s*for .* in \(?.*\.\.", line) and not re.match(r"^\s*for _ in", line):
+            if re.match(r"^\s*for .* in .*\.\.", re.sub(r"\[[^\]]*\]", "", line)) and not re.match(r"^\s*for _ in", line):
                 found["3a loops over a range of indices"].append(place)
-            if re.match(r"^\s*(while|loop)\b", line):
+            if re.match(r"^\s*(while|loop)\b", line) and "while let Some" not in line:
                 found["3b loops with a test"].append(place)
             if re.match(r"^\s*for .* in 0\.\.u64::MAX", line):
                 found["3c counts that stand for no end"].append(place)

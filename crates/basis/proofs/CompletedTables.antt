@@ -1,5 +1,6 @@
 -- Tables of subset sums, completed from the weights at the places of single coordinates.
-use Rattle.std.proofs.Common.{◌≡◌, ℕ, zero, suc, ◌+◌, ◌-◌, ◌*◌, ◌/◌, ◌%◌, ◌^◌, ◌<◌, ◌≤◌, List, length, set, sym, refl, ap, ◌∙◌, ap₂, ⊎_elim, pow-suc, arith, pow_pos, pow_mono}
+use Rattle.std.proofs.Common.{◌≡◌, ℕ, zero, suc, ◌+◌, ◌-◌, ◌*◌, ◌/◌, ◌%◌, ◌^◌, ◌<◌, ◌≤◌, List, length, set, take, drop, sym, refl, ap, ◌∙◌, ap₂, ⊎_elim, zero-add, pow-suc, arith, pow_pos, pow_mono}
+use borrow.Rule.Slice.PartMut.{put_mid}
 use lib.Bits.{bit_and, and_le_r}
 use lib.Count.{count_trailing_zeros, under}
 use lib.Pow.{pow-lt}
@@ -13,7 +14,8 @@ use Rattle.tensor_algebra.specs.Subsets.{byte_sum}
 use Rattle.tensor_algebra.proofs.Basis.{at_power}
 use Rattle.tensor_algebra.proofs.LowestBit.{lowest_below}
 use Rattle.tensor_algebra.proofs.SubsetSums.{byte_zero, byte_extends}
-use Rattle.basis.proofs.LentSlices.{lent_same, lent_other}
+use Rattle.multilinear.proofs.Lent.{lent_written, lent_kept}
+use Rattle.tensor_rows.proofs.Places.{before_part, in_part, past_part, of_part}
 use Rattle.basis.specs.Tables.{num_bytes, lone, held, Completed, Tabulated}
 
 -- the lowest set bit of a number, alone, is no more than the number
@@ -53,9 +55,12 @@ lone_differs u v ne e =
 
 module _ {k : ℕ} where
   -- the weights of its eight coordinates make a byte's sum
-  pub byte_same : (f g : ℕ → Element k) (j s : ℕ) → ((b : ℕ) → b < 8 → f (8 * j + b) ≡ g (8 * j + b)) → byte_sum f j s ≡ byte_sum g j s
+  byte_moved : (f g : ℕ → Element k) (i j s : ℕ) → ((b : ℕ) → b < 8 → f (8 * i + b) ≡ g (8 * j + b)) → byte_sum f i s ≡ byte_sum g j s
   unfolding byte_sum
-  byte_same f g j s e = sum_same 8 _ _ (λ b h. ap (at_bit (s / 2 ^ b % 2)) (e b h))
+  byte_moved f g i j s e = sum_same 8 _ _ (λ b h. ap (at_bit (s / 2 ^ b % 2)) (e b h))
+
+  pub byte_same : (f g : ℕ → Element k) (j s : ℕ) → ((b : ℕ) → b < 8 → f (8 * j + b) ≡ g (8 * j + b)) → byte_sum f j s ≡ byte_sum g j s
+  byte_same f g j s e = byte_moved f g j j s e
 
   -- the sum for one coordinate is its weight
   byte_lone : (f : ℕ → Element k) (j t : ℕ) → t < 8 → byte_sum f j (2 ^ t) ≡ f (8 * j + t)
@@ -109,6 +114,23 @@ module _ {k : ℕ} where
     after = λ i h. b.after i (omega arith) ∙ kept i (λ e. omega arith);
   }
 
+  -- a byte position completed in its own part of the tables
+  pub completed_part : {X : Type 0} (means : X → Element k) (xs table : List X) (j size : ℕ) → size ≡ 256 → 256 * j + 256 ≤ length xs → length table ≡ 256
+      → Completed (lent means (take size (drop (256 * j) xs))) (lent means table) 0
+      → Completed (lent means xs) (lent means (put_mid (256 * j) size xs table)) j
+  completed_part means xs table j size whole room long c =
+      let part : ℕ → Element k = lent means (take size (drop (256 * j) xs)) in
+      record {
+        entry = λ s h.
+            in_part means (256 * j) size xs table s (omega arith) (omega arith) ∙ ap (lent means table) (sym (zero-add s)) ∙ c.entry s h
+            ∙ byte_moved (held part) (held (lent means xs)) 0 j s
+            (λ b l.
+            ap part (lone_at 0 b l ∙ zero-add (2 ^ b)) ∙ of_part means (256 * j) size xs (2 ^ b) (omega (arith, few b l, whole))
+            ∙ ap (lent means xs) (sym (lone_at j b l)));
+        before = λ i h. before_part means (256 * j) size xs table i h (omega arith);
+        after = λ i h. past_part means (256 * j) size xs table i (omega arith) (omega arith) (omega arith);
+      }
+
   -- The sums of the byte positions below n are in place, and every other place is as it was.
   pub record CompletedBelow (old new : ℕ → Element k) (n : ℕ) : Type 0 where
     pub entries : (j s : ℕ) → j < n → s < 256 → new (256 * j + s) ≡ byte_sum (held old) j s
@@ -139,8 +161,8 @@ module _ {k : ℕ} where
       → Placed f (lent means xs) n → means x ≡ f n → Placed f (lent means (set xs place x)) (n + 1)
   placed_more means f xs n place x at h p here u l =
       ap (λ i. lent means (set xs i x) (lone u)) at
-      ∙ ⊎_elim (λ e. ap (λ v. lent means (set xs (lone n) x) (lone v)) e ∙ lent_same means xs (lone n) x h ∙ here ∙ ap f (sym e))
-      (λ ne. lent_other means xs (lone n) x (lone u) (lone_differs n u ne) ∙ p u (omega (arith, ne))) (cases_eq u n)
+      ∙ ⊎_elim (λ e. ap (λ v. lent means (set xs (lone n) x) (lone v)) e ∙ lent_written means xs (lone n) x h ∙ here ∙ ap f (sym e))
+      (λ ne. lent_kept means xs (lone n) (lone u) x (lone_differs n u ne) ∙ p u (omega (arith, ne))) (cases_eq u n)
 
   -- tables are completed from the weights at their places
   pub placed_all : (f old new : ℕ → Element k) (n : ℕ) → n ≡ 8 * num_bytes k → Placed f old n → Tabulated (held old) new → Tabulated f new

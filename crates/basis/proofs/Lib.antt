@@ -3,3 +3,4 @@ pub mod LentSlices
 pub mod CompletedTables
 pub mod LookedUpSums
 pub mod Searching
+pub mod LookedUpChunks

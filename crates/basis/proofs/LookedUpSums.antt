@@ -1,10 +1,10 @@
 -- What tables of subset sums give for an element, a byte at a time.
-use Rattle.std.proofs.Common.{◌≡◌, ℕ, ◌+◌, ◌*◌, ◌/◌, ◌^◌, ◌<◌, ◌≤◌, List, get_or, sym, ap, ◌∙◌, ap₂, ⊎_elim, zero-add, add-one, arith, pow_mono}
+use Rattle.std.proofs.Common.{◌≡◌, ℕ, ◌+◌, ◌*◌, ◌/◌, ◌^◌, ◌<◌, ◌≤◌, List, length, get_or, take, sym, ap, ◌∙◌, ap₂, ⊎_elim, zero-add, add-one, arith, length-take-le, get_or-take, pow_mono}
 use Rattle.std.proofs.lemmas.Bool.{cases_lt}
 use Rattle.level.specs.Element.{Element, width, coordinate, plus, zeros}
 use Rattle.level.specs.Laws.{Arithmetic, Laws}
 use Rattle.level.specs.Bytes.{sixteen}
-use Rattle.level.proofs.Digits.{digit_at}
+use Rattle.level.proofs.Digits.{length_digits, digit_at}
 use Rattle.level.proofs.Elements.{zeros_plus}
 use Rattle.multilinear.specs.Sums.{sum, at_bit}
 use Rattle.multilinear.proofs.Sums.{sum_same}
@@ -60,13 +60,17 @@ module _ {k : ℕ} where
     unfolding sum
     looked_more n place s x r e at read made = made ∙ ap₂ plus e (read ∙ ap tables at) ∙ ap looked_below (sym (add-one n))
 
-    pub looked_all : (x s : Element k) (n : ℕ) → k ≤ 7 → n ≡ num_bytes k → bytes ≡ sixteen x → s ≡ looked_below n → s ≡ looked_up tables x
+    pub looked_all : (all : List ℕ) (x : Element k) (s : Element k) (m n : ℕ) → k ≤ 7 → m ≡ num_bytes k → all ≡ sixteen x → bytes ≡ take m all
+        → n ≤ length bytes → length bytes ≤ n → s ≡ looked_below n → s ≡ looked_up tables x
     unfolding looked_up sixteen
-    looked_all x s n narrow all shown e =
-        let m : 2 ^ k ≤ 128 = pow_mono narrow in
-        e ∙ ap looked_below all
+    looked_all all x s m n narrow few shown front below above e =
+        let w : 2 ^ k ≤ 128 = pow_mono narrow in
+        let size = length-take-le m all (omega (arith, ap length shown, length_digits 16 x.number)) in
+        let whole : n ≡ num_bytes k = omega (arith, ap length front, size) in
+        e ∙ ap looked_below whole
         ∙ sum_same (num_bytes k) _ _ (λ j h.
-        ap (λ b. tables (256 * j + b)) (ap (λ bs. get_or bs j 0) shown ∙ digit_at 16 x.number j (omega arith)))
+        ap (λ b. tables (256 * j + b))
+        (ap (λ bs. get_or bs j 0) front ∙ get_or-take m all j 0 (omega arith) ∙ ap (λ bs. get_or bs j 0) shown ∙ digit_at 16 x.number j (omega arith)))
 
   -- tables whose weights are what other tables give for each scaled basis element
   module _ {A : Arithmetic k} (laws : Laws A) (f sums tables : ℕ → Element k) (a : Element k) where

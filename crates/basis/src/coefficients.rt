@@ -1,4 +1,4 @@
-ghost use Rattle.std.specs.Prelude.{◌≡◌, ℕ, ◌/◌, ◌%◌, ◌^◌, ◌<◌, ◌≤◌, List, replicate, ◌==◌, ◌≢◌, bit_or, slice_index};
+ghost use Rattle.std.specs.Prelude.{◌≡◌, ℕ, ◌/◌, ◌%◌, ◌^◌, ◌<◌, ◌≤◌, List, replicate, ◌==◌, ◌≢◌, bit_or, slice_index, MatchOption};
 ghost use Rattle.level.specs.Element.{Element, coordinate};
 ghost use Rattle.level.specs.Bytes.{sixteen, from_sixteen, Octets};
 ghost use Rattle.multilinear.specs.Cells.{cell, gather};
@@ -7,7 +7,7 @@ ghost use Rattle.tensor_algebra.specs.Subsets.{basis};
 use level::level::Level;
 
 // The first 128 coordinates of an element: coordinate u is bit u mod 8, least first, of byte u div 8.
-#[derive(Clone, Copy)]
+#[derive(Clone, Copy, Debug, PartialEq, Eq)]
 pub struct Coefficients {
     bytes: [u8; 16],
     ghost octets: { Octets bytes },
@@ -54,19 +54,14 @@ impl Coefficients {
         bit(self.bytes[index / 8], index % 8)
     }
 
-    // The least set coordinate from a place on, and 128 where none is left: so the set coordinates come one after the other, upward.
-    pub fn next_set(&self, from: usize) -> usize
+    // The least set coordinate from a place on, if one is left: so the set coordinates come one after the other, upward.
+    pub fn next_set(&self, from: usize) -> Option<usize>
         requires { from ≤ 128 }
-        ensures within { (from ≤ result) × (result ≤ 128) }
-        ensures before { (u : ℕ) → from ≤ u → u < result → cell self.now.bytes u ≡ 0 }
-        ensures found { result < 128 → cell self.now.bytes result ≡ 1 }
+        ensures { MatchOption result
+            ((u : ℕ) → from ≤ u → u < 128 → cell self.now.bytes u ≡ 0)
+            (λ next. (from ≤ next) × (next < 128) × (cell self.now.bytes next ≡ 1) × ((u : ℕ) → from ≤ u → u < next → cell self.now.bytes u ≡ 0)) }
     {
-        for index in from..128 {
-            if self.get(index) {
-                return index;
-            }
-        }
-        128
+        (from..128).find(|index| self.get(*index))
     }
 
     // Sets a coordinate.
@@ -104,7 +99,8 @@ fn single(coordinate: usize) -> Coefficients
     coordinates
 }
 
-// The element of which one coordinate alone is set, and zero past the width.
+// The element of which one coordinate alone is set, and zero past the width: at a level of any width, where `coordinates::basis`
+// asks for 128 coordinates at most.
 pub fn basis_element<L: Level>(coordinate: usize) -> L
     requires { coordinate < 128 }
     ensures { L.means result ≡ basis L.Level.log coordinate }

@@ -7,16 +7,8 @@ ghost use Rattle.tensor_algebra.specs.Subsets.{basis};
 ghost use Rattle.basis.specs.Tables.{num_bytes, lone, held, Completed, Tabulated, looked_up, scaled};
 
 use crate::coefficients::basis_element;
-use crate::width::num_bytes;
+use coordinates::num_bytes;
 use level::level::Level;
-
-// An element of a slice.
-fn element_at<L: Level>(elements: &[L], i: usize) -> L
-    requires { i < length elements.now }
-    ensures { L.means result ≡ lent L.means elements.now i }
-{
-    elements[i]
-}
 
 // The subset without its lowest coordinate.
 fn without_lowest(subset: usize) -> usize
@@ -35,25 +27,25 @@ fn lowest(subset: usize) -> usize
     1 << subset.trailing_zeros()
 }
 
-// The sum for a subset of the byte position whose table begins at `start`: it extends the sum without its lowest coordinate.
-fn extended<L: Level>(tables: &[L], start: usize, subset: usize) -> L
+// The sum for a subset of one byte's coordinates: it extends the sum without the lowest.
+fn extended<L: Level>(table: &[L], subset: usize) -> L
     requires subset { (0 < subset) × (subset < 256) }
-    requires whole { start + 256 ≤ length tables.now }
-    ensures { L.means result ≡ plus (lent L.means tables.now (start + bit_and subset (subset - 1))) (lent L.means tables.now (start + 2 ^ count_trailing_zeros 64 subset)) }
+    requires whole { 256 ≤ length table.now }
+    ensures { L.means result ≡ plus (lent L.means table.now (bit_and subset (subset - 1))) (lent L.means table.now (2 ^ count_trailing_zeros 64 subset)) }
 {
-    let rest = element_at(tables, start + without_lowest(subset));
-    rest.add(element_at(tables, start + lowest(subset)))
+    table[without_lowest(subset)].add(table[lowest(subset)])
 }
 
-// Tabulates the sums of one byte position, from the weights of its coordinates at their places.
-fn complete_position<L: Level>(tables: &mut [L], position: usize)
-    requires { 256 * position + 256 ≤ length tables.old }
-    ensures { Completed (lent L.means tables.old) (lent L.means tables.new) position }
+// Tabulates the sums of one byte position in a table of their own, from the weights of its coordinates at their places.
+fn complete_position<L: Level>(table: &mut [L])
+    requires { length table.old ≡ 256 }
+    ensures { Completed (lent L.means table.old) (lent L.means table.new) 0 }
 {
-    let start = 256 * position;
-    tables[start] = L::zero();
+    table[0] = L::zero();
+
+    // Numbers, since a sum is made of two that stand before it in the same table.
     for subset in 1..256 {
-        tables[start + subset] = extended(tables, start, subset);
+        table[subset] = extended(table, subset);
     }
 }
 
@@ -63,8 +55,9 @@ fn complete<L: Level>(tables: &mut [L])
     requires sized { length tables.old ≡ 256 * num_bytes L.Level.log }
     ensures { Tabulated (held (lent L.means tables.old)) (lent L.means tables.new) }
 {
+    // Numbers of bytes, since of what is written through `chunks_exact_mut` a proof knows only the length.
     for position in 0..num_bytes::<L>() {
-        complete_position(tables, position);
+        complete_position(&mut tables[256 * position..256 * position + 256]);
     }
 }
 
@@ -80,11 +73,7 @@ fn lone(coordinate: usize) -> usize
 fn weight_at<L: Level>(weights: &[L], coordinate: usize) -> L
     ensures { L.means result ≡ lent L.means weights.now coordinate }
 {
-    if coordinate < weights.len() {
-        element_at(weights, coordinate)
-    } else {
-        L::zero()
-    }
+    weights.get(coordinate).copied().unwrap_or(L::zero())
 }
 
 // Tabulates the subset sums of one weight for each coordinate.
@@ -94,24 +83,18 @@ pub fn tabulate<L: Level>(tables: &mut [L], weights: &[L])
     requires weighed { length weights.now ≡ width L.Level.log }
     ensures { Tabulated (lent L.means weights.now) (lent L.means tables.new) }
 {
+    // Numbers, since a byte has eight coordinates also where the weights are fewer.
     for coordinate in 0..8 * num_bytes::<L>() {
         tables[lone(coordinate)] = weight_at(weights, coordinate);
     }
     complete(tables);
 }
 
-// The sums of one weight for each coordinate that an element has set, in lent tables.
+// The sums of one weight for each coordinate that an element has set, in lent tables. How long the tables are stands at each method,
+// since `new` takes tables of any length.
 #[derive(Drop)]
 pub struct CoordinateSums<'a, L> {
     tables: &'a [L],
-}
-
-// The place of the sum for a byte at a byte position.
-fn place(position: usize, byte: u8) -> usize
-    requires { position < 16 }
-    ensures { result ≡ 256 * position + byte }
-{
-    256 * position + usize::from(byte)
 }
 
 impl<'a, L: Level> CoordinateSums<'a, L> {
@@ -130,21 +113,12 @@ impl<'a, L: Level> CoordinateSums<'a, L> {
         ensures weights { (f : ℕ → Element L.Level.log) → Tabulated f (lent L.means self.now.tables.now) → L.means result ≡ subset_sum f (L.means value) }
     {
         let bytes = value.to_bytes();
+        let tables = self.tables.chunks_exact(256);
         let mut sum = L::zero();
-        for position in 0..num_bytes::<L>() {
-            sum = sum.add(element_at(self.tables, place(position, bytes[position])));
+        for (table, byte) in tables.zip(&bytes[..num_bytes::<L>()]) {
+            sum = sum.add(table[usize::from(*byte)]);
         }
         sum
-    }
-
-    // The sum for one element of a slice.
-    fn sum_at(&self, input: &[L], i: usize) -> L
-        requires narrow { L.Level.log ≤ 7 }
-        requires sized { length self.now.tables.now ≡ 256 * num_bytes L.Level.log }
-        requires within { i < length input.now }
-        ensures { L.means result ≡ looked_up (lent L.means self.now.tables.now) (lent L.means input.now i) }
-    {
-        self.sum(element_at(input, i))
     }
 
     // Writes the sum for each element of the input.
@@ -155,8 +129,9 @@ impl<'a, L: Level> CoordinateSums<'a, L> {
         ensures entries { (i : ℕ) → i < length input.now → lent L.means output.new i ≡ looked_up (lent L.means self.now.tables.now) (lent L.means input.now i) }
         ensures weights { (f : ℕ → Element L.Level.log) → Tabulated f (lent L.means self.now.tables.now) → (i : ℕ) → i < length input.now → lent L.means output.new i ≡ subset_sum f (lent L.means input.now i) }
     {
-        for i in 0..input.len() {
-            output[i] = self.sum_at(input, i);
+        // An index into the output, since of what is written through a zip with `iter_mut` a proof knows only the length.
+        for (i, value) in input.iter().enumerate() {
+            output[i] = self.sum(*value);
         }
     }
 
@@ -179,6 +154,7 @@ pub fn scaled_sums_into<L: Level>(out: &mut [L], sums: &CoordinateSums<'_, L>, s
     ensures weights { (f : ℕ → Element L.Level.log) → Tabulated f (lent L.means sums.now.tables.now) → Tabulated (scaled L.arithmetic f (L.means scale)) (lent L.means out.new) }
     ensures entries { (f : ℕ → Element L.Level.log) → Tabulated f (lent L.means sums.now.tables.now) → (x : Element L.Level.log) → looked_up (lent L.means out.new) x ≡ looked_up (lent L.means sums.now.tables.now) (L.arithmetic.times (L.means scale) x) }
 {
+    // Numbers, since each coordinate is scaled and no list holds them.
     for coordinate in 0..8 * num_bytes::<L>() {
         out[lone(coordinate)] = sums.scaled_weight(scale, coordinate);
     }

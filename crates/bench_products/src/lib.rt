@@ -41,6 +41,8 @@ fn chain_low<L: Level>(x: u64, y: u64, n: u64) -> u64
     (u128::from_le_bytes(bytes) & 0xffff_ffff_ffff_ffff) as u64
 }
 
+// One export for each level, since C has no type parameters.
+
 #[unsafe(no_mangle)]
 pub extern "C" fn chain_tower_byte(x: u64, y: u64, n: u64) -> u64
     ensures { result ≡ low_chained (tower 3) n x y }

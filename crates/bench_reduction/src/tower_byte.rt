@@ -12,10 +12,9 @@ ghost use Rattle.equality.specs.Tables.{Factors};
 ghost use Rattle.byte_levels.specs.contracts.tower.TowerByteLevel.TheImpl.{ghosts as of};
 
 use byte_levels::tower::TowerByte;
+use columns::Columns;
 use equality::factored::{FactoredEquality, factor};
-use folding::carry::carry_over;
-use folding::last::last_over;
-use folding::tensor::tensor_over;
+use folding::slot_table::SlotTable;
 use level::level::Level;
 use packing::pack_elements;
 use plain::stepping::Stepping;
@@ -57,7 +56,8 @@ pub extern "C" fn tensor_tower_byte<'a>(
     ensures rows { (s : Element 3) (p : Point 3) → Factors of.means of.arithmetic s p outer.now inner.now → lent of.means rows.new ≡ tensor_of (2 ^ length p) (entry of.arithmetic s p) (lent of.means values.now) }
     ensures scratch { lent of.means scratch.new ≡ nothing }
 {
-    tensor_over(values, &FactoredEquality { outer, inner }, rows, scratch);
+    let equality = FactoredEquality { outer, inner };
+    SlotTable { values, equality }.tensor(rows, scratch);
 }
 
 #[unsafe(no_mangle)]
@@ -81,7 +81,8 @@ pub extern "C" fn carry_tower_byte<'a>(
     ensures scratch { lent of.means scratch.new ≡ nothing }
 {
     let equality = FactoredEquality { outer, inner };
-    carry_over(values, &equality, kept, shifted, rows, scratch);
+    let columns = Columns::new(kept);
+    SlotTable { values, equality }.carry(columns, shifted, rows, scratch);
 }
 
 #[unsafe(no_mangle)]
@@ -98,7 +99,8 @@ pub extern "C" fn last_tower_byte<'a>(
     requires rows { length rows.old ≡ 8 }
     ensures { (s : Element 3) (p : Point 3) → Factors of.means of.arithmetic s p outer.now inner.now → lent of.means rows.new ≡ last_of kept (2 ^ length p) (entry of.arithmetic s p) (lent of.means values.now) }
 {
-    last_over(values, &FactoredEquality { outer, inner }, kept, rows);
+    let equality = FactoredEquality { outer, inner };
+    SlotTable { values, equality }.last(Columns::new(kept), rows);
 }
 
 #[unsafe(no_mangle)]

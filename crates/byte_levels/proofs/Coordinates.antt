@@ -1,5 +1,5 @@
 -- A byte as an element of eight coordinates.
-use Rattle.std.proofs.Common.{◌≡◌, ℕ, ◌/◌, ◌%◌, ◌^◌, ◌<◌, List, [], ◌∷◌, get_or, sym, refl, ap, ◌∙◌, ap₂, mod-eq_of_lt, arith}
+use Rattle.std.proofs.Common.{◌≡◌, ℕ, ◌^◌, ◌<◌, List, [], ◌∷◌, get_or, sym, refl, ap, ◌∙◌, mod-eq_of_lt, arith}
 use Rattle.level.specs.Element.{Element, cut, zeros}
 use Rattle.level.specs.Laws.{Arithmetic, Laws}
 use Rattle.level.specs.Bytes.{digits, le_number, sixteen, from_sixteen}
@@ -20,12 +20,9 @@ byte_number b h = cut_is 3 b ∙ mod-eq_of_lt h
 pub same_byte : (a b : ℕ) → a < 2 ^ 8 → b < 2 ^ 8 → cut 3 a ≡ cut 3 b → a ≡ b
 same_byte a b ha hb e = sym (byte_number a ha) ∙ ap (λ x. x.number) e ∙ byte_number b hb
 
-pub to_sixteen : (b : ℕ) → b < 2 ^ 8 → b ∷ 0 ∷ 0 ∷ 0 ∷ 0 ∷ 0 ∷ 0 ∷ 0 ∷ 0 ∷ 0 ∷ 0 ∷ 0 ∷ 0 ∷ 0 ∷ 0 ∷ 0 ∷ [] ≡ sixteen (cut 3 b)
-unfolding sixteen digits cut
-to_sixteen b h =
-    let low : b ≡ b % 256 % 256 = omega arith in
-    let high : 0 ≡ b % 256 / 256 = omega arith in
-    ap₂ ◌∷◌ low (ap (digits 15) high)
+pub to_sixteen : (b : ℕ) → b < 2 ^ 8 → digits 16 b ≡ sixteen (cut 3 b)
+unfolding sixteen
+to_sixteen b h = ap (digits 16) (sym (byte_number b h))
 
 pub first_of_sixteen : (bs : List ℕ) → cut 3 (get_or bs 0 0) ≡ from_sixteen 3 bs
 unfolding from_sixteen le_number cut

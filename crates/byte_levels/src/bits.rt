@@ -2,7 +2,8 @@ ghost use Rattle.std.specs.Prelude.{◌≡◌, T};
 ghost use Rattle.level.specs.Bytes.{sixteen, from_sixteen};
 ghost use Rattle.level.specs.Element.{cut, plus};
 
-// What every level of eight coordinates does alike when coordinate i is bit i of a byte.
+// What every level of eight coordinates does alike when coordinate i is bit i of a byte. These are functions, and not one generic
+// struct for both levels, since an exported C function takes no generic type.
 
 // The sum: the exclusive-or of the coordinates.
 pub fn sum(a: u8, b: u8) -> u8
@@ -23,7 +24,7 @@ pub fn equal(a: u8, b: u8) -> bool
 pub fn to_sixteen(value: u8) -> [u8; 16]
     ensures { result ≡ sixteen (cut 3 value) }
 {
-    [value, 0, 0, 0, 0, 0, 0, 0, 0, 0, 0, 0, 0, 0, 0, 0]
+    u128::from(value).to_le_bytes()
 }
 
 // The eight coordinates that sixteen bytes begin with.

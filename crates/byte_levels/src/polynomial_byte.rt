@@ -9,7 +9,7 @@ use crate::combine::combine;
 use level::level::Level;
 
 // A polynomial over the bits modulo X^8 + X^4 + X^3 + X + 1, coefficient i in bit i.
-#[derive(Clone, Copy)]
+#[derive(Clone, Copy, Debug, PartialEq, Eq)]
 #[repr(C)]
 pub struct PolynomialByte {
     pub value: u8,
@@ -26,13 +26,13 @@ fn xtime(b: u8) -> u8
 fn multiples(b: u8) -> [u8; 8]
     ensures { result ≡ multiples_of 8 b }
 {
-    let b1 = xtime(b);
-    let b2 = xtime(b1);
-    let b3 = xtime(b2);
-    let b4 = xtime(b3);
-    let b5 = xtime(b4);
-    let b6 = xtime(b5);
-    [b, b1, b2, b3, b4, b5, b6, xtime(b6)]
+    let mut products = [0; 8];
+    let mut next = b;
+    for product in &mut products {
+        *product = next;
+        next = xtime(next);
+    }
+    products
 }
 
 // a·b is the sum of X^i·b over the set bits i of a.

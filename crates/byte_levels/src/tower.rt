@@ -9,7 +9,7 @@ use crate::combine::combine;
 use level::level::Level;
 
 // An element of three doublings over the bit, coordinate i in bit i.
-#[derive(Clone, Copy)]
+#[derive(Clone, Copy, Debug, PartialEq, Eq)]
 #[repr(C)]
 pub struct TowerByte {
     pub value: u8,

@@ -1,5 +1,5 @@
 -- The weights of columns in the successor claim.
-use Rattle.std.proofs.Common.{◌≡◌, ℕ, ◌-◌, ◌%◌, ◌^◌, ◌<◌, ◌≤◌, true, false, not, eqb, ltb, List, length, get_or, sym, ap, ◌∙◌, ap₂, ⊎_elim, lt_of_lt_of_le, mod-eq_of_lt, arith, pow_pos, pow_mono}
+use Rattle.std.proofs.Common.{◌≡◌, ℕ, ◌-◌, ◌^◌, ◌<◌, ◌≤◌, Bool, true, false, not, eqb, ltb, List, length, get_or, sym, ap, ◌∙◌, ap₂, ⊎_elim, lt_of_lt_of_le, mod-eq_of_lt, arith, pow_pos, pow_mono}
 use lib.Pow.{pow-lt, ones_lt}
 use Rattle.std.proofs.lemmas.Bool.Decides.{nat_tests}
 use Rattle.std.proofs.lemmas.Bool.{cases_lt}
@@ -21,11 +21,11 @@ use Rattle.claims.specs.Rows.{row_weight}
 use Rattle.claims.proofs.Weighing.{by_columns_same, tabulated_at}
 
 -- a column's weight from what was read
-pub row_weighed : {k : ℕ} (q : ℕ) (f : ℕ → Element k) (v row last : ℕ) (before own value : Element k) → before ≡ f (v - 1) → own ≡ f v
-    → row ≡ v % 2 ^ q → last ≡ 2 ^ q - 1
-    → value ≡ plus (where_set (not (eqb row 0)) before) (where_set (eqb row last) own) → value ≡ row_weight f q v
+pub row_weighed : {k : ℕ} (q : ℕ) (f : ℕ → Element k) (v : ℕ) (first last : Bool) (before own value : Element k) → before ≡ f (v - 1) → own ≡ f v
+    → first ≡ starts q v → last ≡ ends q v
+    → value ≡ plus (where_set (not first) before) (where_set last own) → value ≡ row_weight f q v
 unfolding row_weight
-row_weighed q f v row last before own value e₁ e₂ e₃ e₄ e = e ∙ simp (e₁, e₂, e₃, e₄)
+row_weighed q f v first last before own value e₁ e₂ e₃ e₄ e = e ∙ simp (e₁, e₂, e₃, e₄)
 
 not_longer : (k q : ℕ) → q ≤ k → ltb k q ≡ false
 not_longer k q h = grind (arith, nat_tests)

@@ -12,17 +12,11 @@ ghost use Rattle.equality.specs.Tables.{Tabulated};
 ghost use Rattle.claims.specs.Rows.{row_weight};
 
 use crate::by_columns::by_columns;
+use columns::Columns;
 use level::level::Level;
 use plain::batching::where_set;
 use tensor_rows::columns::column;
 use tensor_rows::rows::clear;
-
-// The sum of two elements, each where its test holds.
-fn sum_where<L: Level>(first: bool, x: L, second: bool, y: L) -> L
-    ensures { L.means result ≡ plus (where_set first (L.means x)) (where_set second (L.means y)) }
-{
-    where_set(first, x).add(where_set(second, y))
-}
 
 // Writes the weight of every column in the successor claim, from the equality table of the low coordinates: that of the bit before it
 // in its row of 2^q bits, and its own again where it ends its row.
@@ -30,11 +24,15 @@ pub fn successor_low_weights<L: Level>(eq_low: &[L], q: usize, out: &mut [L])
     requires { (q < 64) × (length out.old ≡ length eq_low.now) }
     ensures { (v : ℕ) → v < length eq_low.now → lent L.means out.new v ≡ row_weight (lent L.means eq_low.now) q v }
 {
-    let last = (1usize << q) - 1;
-    for v in 0..eq_low.len() {
-        let row = v & last;
-        let before = eq_low[v.saturating_sub(1)];
-        out[v] = sum_where(row != 0, before, row == last, eq_low[v]);
+    let columns = Columns::new(q);
+
+    // An index, since a weight is read off the entry at its place and the one before it.
+    for (v, weight) in out.iter_mut().enumerate() {
+        let first = columns.starts(v);
+        let last = columns.ends(v);
+        let before = where_set(!first, eq_low[v.saturating_sub(1)]);
+        let own = where_set(last, eq_low[v]);
+        *weight = before.add(own);
     }
 }
 
@@ -62,18 +60,8 @@ fn settled<L: Level>(
     sum
 }
 
-// The first column of the carry, and the last column, `top`, of the last.
-fn rippled_columns<L: Level>(carry: &[L], last: &[L], top: usize) -> L
-    requires narrow { L.Level.log ≤ 7 }
-    requires carry { length carry.now ≡ width L.Level.log }
-    requires last { length last.now ≡ width L.Level.log }
-    requires top { top + 1 ≡ width L.Level.log }
-    ensures { L.means result ≡ plus (column (lent L.means carry.now) 0) (column (lent L.means last.now) top) }
-{
-    column(carry, 0).add(column(last, top))
-}
-
-// What ripples out of an element, where rows are longer than one: the weight of its last bit times the columns that it reaches.
+// What ripples out of an element, where rows are longer than one: the weight of its last bit times the first column of the carry and
+// the last column of the last.
 fn rippled<L: Level>(carry: &[L], last: &[L], eq_low: &[L]) -> L
     requires narrow { L.Level.log ≤ 7 }
     requires carry { length carry.now ≡ width L.Level.log }
@@ -82,7 +70,7 @@ fn rippled<L: Level>(carry: &[L], last: &[L], eq_low: &[L]) -> L
     ensures { L.means result ≡ L.arithmetic.times (lent L.means eq_low.now (width L.Level.log - 1)) (plus (column (lent L.means carry.now) 0) (column (lent L.means last.now) (width L.Level.log - 1))) }
 {
     let top = eq_low.len() - 1;
-    eq_low[top].mul(rippled_columns(carry, last, top))
+    eq_low[top].mul(column(carry, 0).add(column(last, top)))
 }
 
 // The successor claim of a view with q row variables: the tensor's columns against their weights and, where rows are longer than an

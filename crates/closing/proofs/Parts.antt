@@ -1,7 +1,7 @@
 -- The closing elements over a slot and a point that are lent.
-use Rattle.std.proofs.Common.{◌≡◌, ℕ, ◌+◌, ◌-◌, ◌<◌, ◌≤◌, List, map, length, get_or, take, drop, sym, refl, ap, ◌∙◌, ap₂, arith}
+use Rattle.std.proofs.Common.{◌≡◌, ℕ, ◌+◌, ◌-◌, ◌<◌, ◌≤◌, List, map, length, get_or, reverse, take, drop, sym, refl, ap, ◌∙◌, ap₂, arith}
 use lib.ListN.{length-map}
-use Rattle.std.proofs.lemmas.List.{take-map, drop-map}
+use Rattle.std.proofs.lemmas.List.{take-map, drop-map, length-reverse, get_or-reverse}
 use Rattle.level.specs.Element.{Element}
 use Rattle.level.specs.Laws.{Arithmetic}
 use Rattle.tensor_algebra.specs.Tensor.{Tensor, nothing, exterior, add, product, successor_element, equality_factors}
@@ -19,12 +19,17 @@ module _ {X : Type 0} {k : ℕ} (means : X → Element k) (A : Arithmetic k) whe
     unfolding product_from product
     product_none i s h e = e ∙ sym (ap (product A) (none_left means xs i h))
 
-    pub product_more : (i : ℕ) (x : X) (s r : Element k) → 0 < i → i ≤ length xs → x ≡ get_or xs (i - 1) x → r ≡ A.times (means x) s
-        → s ≡ product_from i → r ≡ product_from (i - 1)
+    -- n coordinates were read, from the last on
+    pub product_more : (n m : ℕ) (x : X) (s r : Element k) → m ≡ n + 1 → n < length (reverse xs) → x ≡ get_or (reverse xs) n x → r ≡ A.times (means x) s
+        → s ≡ product_from (length xs - n) → r ≡ product_from (length xs - m)
     unfolding product_from product
-    product_more i x s r some h read made e =
-        let back : i ≡ i - 1 + 1 = omega arith in
-        made ∙ ap (A.times (means x)) (e ∙ ap product_from back) ∙ sym (ap (product A) (left means xs (i - 1) x (omega arith) read))
+    product_more n m x s r more h read made e =
+        let inside : n < length xs = omega (arith, length-reverse xs) in
+        let i = length xs - m in
+        let back : length xs - n ≡ i + 1 = omega arith in
+        let place : length xs - 1 - n ≡ i = omega arith in
+        let item : x ≡ get_or xs i x = read ∙ get_or-reverse xs n x inside ∙ ap (λ j. get_or xs j x) place in
+        made ∙ ap (A.times (means x)) (e ∙ ap product_from back) ∙ sym (ap (product A) (left means xs i x (omega arith) item))
 
     pub product_all : (i : ℕ) (s : Element k) → i ≤ 0 → s ≡ product_from i → s ≡ product A (map means xs)
     unfolding product_from

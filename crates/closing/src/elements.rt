@@ -9,20 +9,13 @@ use tensor::equality::equality_factors;
 use tensor::successor::successor_element;
 use tensor_rows::rows::{add_exterior_product, clear};
 
-// A product with one coordinate more.
-fn with_coordinate<L: Level>(x: L, product: L) -> L
-    ensures { L.means result ≡ L.arithmetic.times (L.means x) (L.means product) }
-{
-    x.mul(product)
-}
-
 // The product of all coordinates of a point.
 pub fn product<L: Level>(point: &[L]) -> L
     ensures { L.means result ≡ product L.arithmetic (map L.means point.now) }
 {
     let mut product = L::one();
-    for i in (0..point.len()).rev() {
-        product = with_coordinate(point[i], product);
+    for x in point.iter().rev() {
+        product = x.mul(product);
     }
     product
 }
@@ -55,15 +48,6 @@ pub fn carry_element<L: Level>(rows: &mut [L], r: usize, slot: &[L], z: &[L], sc
     equality_factors(rows, selector, z_selector, scratch);
 }
 
-// Adds the exterior product of two points' products.
-fn add_products<L: Level>(rows: &mut [L], point: &[L], other: &[L])
-    requires narrow { L.Level.log ≤ 7 }
-    requires rows { length rows.old ≡ width L.Level.log }
-    ensures { lent L.means rows.new ≡ add (lent L.means rows.old) (exterior (product L.arithmetic (map L.means point.now)) (product L.arithmetic (map L.means other.now))) }
-{
-    add_exterior_product(rows, product(point), product(other));
-}
-
 // Makes the rows those of the last element of a slot and a closing point: the products of their last r coordinates, one on each leg,
 // under the equality factors of the others.
 pub fn last_element<L: Level>(rows: &mut [L], r: usize, slot: &[L], z: &[L], scratch: &mut [L])
@@ -78,6 +62,6 @@ pub fn last_element<L: Level>(rows: &mut [L], r: usize, slot: &[L], z: &[L], scr
     let (selector, rho) = rows_apart(slot, r);
     let (z_selector, z_rows) = rows_apart(z, r);
     clear(rows);
-    add_products(rows, rho, z_rows);
+    add_exterior_product(rows, product(rho), product(z_rows));
     equality_factors(rows, selector, z_selector, scratch);
 }

@@ -11,13 +11,6 @@ use level::level::Level;
 use plain::stepping::Stepping;
 use tensor_rows::rows::batch_rows;
 
-// α·carry + α²·last.
-fn with_challenge<L: Level>(alpha: L, carry: L, last: L) -> L
-    ensures { L.means result ≡ L.arithmetic.times (L.means alpha) (plus (L.means carry) (L.arithmetic.times (L.means alpha) (L.means last))) }
-{
-    alpha.mul(carry.add(alpha.mul(last)))
-}
-
 // The successor share of either end: α·rows(carry) + α²·rows(last).
 pub fn successor_rows<L: Level>(eq_batch: &[L], alpha: L, carry: &[L], last: &[L]) -> L
     requires eq_batch { length eq_batch.now ≡ width L.Level.log }
@@ -25,21 +18,9 @@ pub fn successor_rows<L: Level>(eq_batch: &[L], alpha: L, carry: &[L], last: &[L
     requires last { length last.now ≡ width L.Level.log }
     ensures { L.means result ≡ successor_rows L.arithmetic (lent L.means eq_batch.now) (L.means alpha) (lent L.means carry.now) (lent L.means last.now) }
 {
-    with_challenge(
-        alpha,
-        batch_rows(carry, eq_batch),
-        batch_rows(last, eq_batch),
-    )
-}
-
-// A sum with the successor share.
-fn with_successor_rows<L: Level>(sum: L, eq_batch: &[L], alpha: L, carry: &[L], last: &[L]) -> L
-    requires eq_batch { length eq_batch.now ≡ width L.Level.log }
-    requires carry { length carry.now ≡ width L.Level.log }
-    requires last { length last.now ≡ width L.Level.log }
-    ensures { L.means result ≡ plus (L.means sum) (successor_rows L.arithmetic (lent L.means eq_batch.now) (L.means alpha) (lent L.means carry.now) (lent L.means last.now)) }
-{
-    sum.add(successor_rows(eq_batch, alpha, carry, last))
+    let carry = batch_rows(carry, eq_batch);
+    let last = batch_rows(last, eq_batch);
+    alpha.mul(carry.add(alpha.mul(last)))
 }
 
 // The initial sum: the batched rows of the tensor, and of the carry and the last where they are sent. Of the tensors of a slot's
@@ -63,6 +44,6 @@ pub fn initial_sum<L: Level>(
     let sum = batch_rows(tensor, eq_batch);
     match stepping {
         None => sum,
-        Some(stepping) => { with_successor_rows(sum, eq_batch, stepping.challenge, carry, last) }
+        Some(stepping) => { sum.add(successor_rows(eq_batch, stepping.challenge, carry, last)) }
     }
 }

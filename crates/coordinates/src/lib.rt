@@ -2,8 +2,7 @@
 // All of it is for levels of at most 128 coordinates.
 #![tactic(auto)]
 
-ghost use Rattle.std.specs.Prelude.{◌≡◌, ◌+◌, ◌*◌, ◌/◌, ◌%◌, ◌^◌, ◌<◌, ◌≤◌};
-ghost use Rattle.level.specs.Bytes.{digits, le_number};
+ghost use Rattle.std.specs.Prelude.{◌≡◌, ◌+◌, ◌*◌, ◌/◌, ◌%◌, ◌^◌, ◌<◌, ◌≤◌, max};
 ghost use Rattle.level.specs.Element.{width, cut};
 ghost use Rattle.tensor_algebra.specs.Subsets.{basis};
 
@@ -17,18 +16,20 @@ pub fn width<L: Level>() -> usize
     1 << L::log_width()
 }
 
-// The number that sixteen bytes write, least first.
-fn number(bytes: [u8; 16]) -> u128
-    ensures { result ≡ le_number bytes }
+// How many whole bytes the coordinates fill.
+pub fn whole_bytes<L: Level>() -> usize
+    requires { L.Level.log ≤ 7 }
+    ensures { result ≡ width L.Level.log / 8 }
 {
-    u128::from_le_bytes(bytes)
+    width::<L>() / 8
 }
 
-// The sixteen bytes of a number, least first.
-fn bytes(number: u128) -> [u8; 16]
-    ensures { result ≡ digits 16 number }
+// How many bytes hold the coordinates, one where they do not fill it.
+pub fn num_bytes<L: Level>() -> usize
+    requires { L.Level.log ≤ 7 }
+    ensures { result ≡ max 1 (width L.Level.log / 8) }
 {
-    number.to_le_bytes()
+    whole_bytes::<L>().max(1)
 }
 
 // An element's coordinates.
@@ -36,31 +37,25 @@ pub fn coordinates<L: Level>(x: L) -> u128
     requires { L.Level.log ≤ 7 }
     ensures { result ≡ (L.means x).number }
 {
-    number(x.to_bytes())
+    u128::from_le_bytes(x.to_bytes())
 }
 
 // The element with those coordinates, bits past the width dropped.
+#[tactic(auto, using(crate::proofs::Numbers::element_of, level::proofs::Words::to_le_bytes))]
 pub fn from_coordinates<L: Level>(coordinates: u128) -> L
     requires { L.Level.log ≤ 7 }
     ensures { L.means result ≡ cut L.Level.log coordinates }
 {
-    L::from_bytes(bytes(coordinates))
-}
-
-// A number whose only set bit is bit u.
-fn bit(u: usize) -> u128
-    requires { u < 128 }
-    ensures { result ≡ 2 ^ u }
-{
-    1 << u
+    L::from_bytes(coordinates.to_le_bytes())
 }
 
 // The element of which coordinate u alone is set.
+#[tactic(auto, using(crate::proofs::Numbers::basis_of, crate::proofs::Numbers::one_bit))]
 pub fn basis<L: Level>(u: usize) -> L
     requires { (L.Level.log ≤ 7) × (u < 128) }
     ensures { L.means result ≡ basis L.Level.log u }
 {
-    from_coordinates(bit(u))
+    from_coordinates(1 << u)
 }
 
 // Coordinate u, 0 or 1.
@@ -72,6 +67,7 @@ pub fn coordinate(coordinates: u128, u: usize) -> u128
 }
 
 // Coordinates below u, with a bit, 0 or 1, as coordinate u.
+#[tactic(auto, using(crate::proofs::Numbers::next_bit))]
 pub fn with_coordinate(coordinates: u128, u: usize, bit: u128) -> u128
     requires { (u < 128) × ((coordinates < 2 ^ u) × (bit < 2)) }
     ensures { result ≡ coordinates + bit * 2 ^ u }

@@ -1,4 +1,4 @@
-ghost use Rattle.std.specs.Prelude.{◌≡◌, cond, ◌∷◌, ◌%◌, T, replicate};
+ghost use Rattle.std.specs.Prelude.{◌≡◌, cond, ◌%◌, T};
 ghost use Rattle.std.specs.Int.Bits.{bit_and, bit_xor};
 ghost use Rattle.doubling.specs.Doubled.{bit, bit_of};
 ghost use Rattle.doubling.specs.Rings.{bit_laws};
@@ -6,7 +6,7 @@ ghost use Rattle.doubling.specs.Rings.{bit_laws};
 use level::level::Level;
 
 // The level of log width 0: one coordinate.
-#[derive(Clone, Copy)]
+#[derive(Clone, Copy, Debug, PartialEq, Eq)]
 pub struct Bit {
     pub set: bool,
 }
@@ -53,7 +53,7 @@ impl Level for Bit {
     }
 
     fn to_bytes(self) -> [u8; 16] {
-        shown(self.set)
+        u128::from(self.set).to_le_bytes()
     }
 
     fn from_bytes(bytes: [u8; 16]) -> Self {
@@ -86,13 +86,4 @@ fn is_odd(byte: u8) -> bool
     ensures { cond result 1 0 ≡ byte % 2 }
 {
     byte % 2 == 1
-}
-
-// The bit in the first of sixteen bytes.
-fn shown(set: bool) -> [u8; 16]
-    ensures { result ≡ cond set 1 0 ∷ replicate 15 0 }
-{
-    let mut bytes = [0; 16];
-    bytes[0] = u8::from(set);
-    bytes
 }

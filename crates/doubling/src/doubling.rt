@@ -7,7 +7,7 @@ ghost use Rattle.doubling.specs.Rings.{doubled_laws};
 use level::level::Level;
 
 // An element of the doubling of a level: its coordinates are those of `low`, followed by those of `high`.
-#[derive(Clone, Copy)]
+#[derive(Clone, Copy, Debug)]
 pub struct Doubling<L> {
     pub low: L,
     pub high: L,

@@ -6,7 +6,7 @@ use element_text::element::parse_byte;
 use std::alloc::{AllocFailed, Global};
 
 // Why a text does not write bytes.
-#[derive(Clone, Copy)]
+#[derive(Clone, Copy, Debug, PartialEq, Eq)]
 pub enum BytesFault {
     // The last byte has one digit alone.
     Odd,
@@ -32,10 +32,15 @@ pub fn parse_hex_bytes(heap: Global, text: &[u8]) -> Result<Vec<u8>, BytesFault>
         return Err(BytesFault::Odd);
     }
     let mut bytes = Vec::new(heap);
+    // An index, since a fault of a byte is told by its place in the whole text.
     for j in 0..text.len() / 2 {
         match parse_byte(text, j) {
             Ok(byte) => bytes.push(byte)?,
-            Err(at) => return Err(BytesFault::Digit { place: at + 1 }),
+            Err(fault) => {
+                return Err(BytesFault::Digit {
+                    place: fault.at + 1,
+                });
+            }
         }
     }
     Ok(bytes)

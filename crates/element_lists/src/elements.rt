@@ -3,12 +3,12 @@ ghost use Rattle.element_text.specs.Hex.{Writes};
 ghost use Rattle.element_lists.specs.Elements.{ElementsOf, digits_of, BadElement, BadElements, RefusedWriteNoElements};
 ghost use Rattle.element_lists.specs.declared.elements.ElementsFault.TheVariants.{Memory};
 
-use element_text::element::{TextFault, byte_count, parse_element};
+use element_text::element::{byte_count, parse_digits};
 use level::level::Level;
 use std::alloc::{AllocFailed, Global};
 
 // Why a text does not write a list of elements.
-#[derive(Clone, Copy)]
+#[derive(Clone, Copy, Debug, PartialEq, Eq)]
 pub enum ElementsFault {
     // The text is not elements of this many digits with single spaces between them.
     Shape { digits: usize },
@@ -36,14 +36,11 @@ fn element_at<L: Level>(text: &[u8], i: usize, digits: usize) -> Result<L, Eleme
     if end < text.len() && text[end] != b' ' {
         return Err(ElementsFault::Shape { digits });
     }
-    match parse_element::<L>(&text[from..end]) {
+    match parse_digits(&text[from..end]) {
         Ok(x) => Ok(x),
-        Err(fault) => match fault {
-            TextFault::Digit { at } => Err(ElementsFault::Digit {
-                place: from + at + 1,
-            }),
-            TextFault::Length { .. } => Err(ElementsFault::Shape { digits }),
-        },
+        Err(fault) => Err(ElementsFault::Digit {
+            place: from + fault.at + 1,
+        }),
     }
 }
 
@@ -59,6 +56,7 @@ pub fn parse_elements<L: Level>(heap: Global, text: &[u8]) -> Result<Vec<L>, Ele
     if text.len() % (digits + 1) != digits {
         return Err(ElementsFault::Shape { digits });
     }
+    // An index, since a fault of an element is told by its place in the whole text.
     for i in 0..text.len() / (digits + 1) + 1 {
         elements.push(element_at(text, i, digits)?)?;
     }

@@ -2,5 +2,5 @@
 #![tactic(auto)]
 
 pub mod bytes;
+pub mod called;
 pub mod elements;
-pub mod words;

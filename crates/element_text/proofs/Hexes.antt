@@ -1,7 +1,8 @@
 -- The text of bytes, one byte after another.
-use Rattle.std.proofs.Common.{◌≡◌, ℕ, ◌+◌, ◌*◌, ◌/◌, ◌%◌, ◌<◌, List, [], ◌∷◌, ◌++◌, length, get_or, take, sym, refl, ap, ◌∙◌, arith}
-use Rattle.std.proofs.lemmas.Bool.Decides.{nat_tests}
-use Rattle.std.proofs.lemmas.List.{take_more, append_assoc}
+use Rattle.std.proofs.Common.{◌≡◌, ℕ, ◌+◌, ◌*◌, ◌-◌, ◌/◌, ◌%◌, ◌^◌, ◌<◌, false, List, [], ◌∷◌, ◌++◌, length, get_or, take, sym, refl, ap, ap₂, ◌∙◌, arith}
+use Rattle.std.proofs.lemmas.Fmt.{hex_byte}
+use Rattle.std.proofs.lemmas.List.{take_more}
+use Rattle.std.specs.Fmt.{digits, padded_integral, format_spec}
 use Rattle.element_text.specs.Hex.{digit_code, hex}
 
 pub hex_append : (xs bs : List ℕ) → hex (xs ++ bs) ≡ hex xs ++ hex bs
@@ -18,21 +19,8 @@ unfolding hex
 length_hex [] = refl
 length_hex (b ∷ bs) = omega (arith, length_hex bs)
 
-digit_ascii : (v : ℕ) → v < 16 → digit_code v < 128
-digit_ascii v h = grind (arith, nat_tests)
-
--- two digits pushed one after the other, c₁ and c₂ with their encodings e₁ and e₂
-pub pushed : (bs t t₁ t₂ e₁ e₂ : List ℕ) (i c₁ c₂ : ℕ) → i < length bs → get_or bs i 0 < 256 → t ≡ hex (take i bs)
-    → c₁ ≡ digit_code (get_or bs i 0 / 16 % 16) → c₂ ≡ digit_code (get_or bs i 0 % 16)
-    → (c₁ < 128 → e₁ ≡ c₁ ∷ []) → (c₂ < 128 → e₂ ≡ c₂ ∷ []) → t₁ ≡ t ++ e₁ → t₂ ≡ t₁ ++ e₂ → t₂ ≡ hex (take (i + 1) bs)
-pushed bs t t₁ t₂ e₁ e₂ i c₁ c₂ h small et ec₁ ec₂ a₁ a₂ f₁ f₂ =
-    let b = get_or bs i 0 in
-    let whole : b / 16 % 16 ≡ b / 16 = omega arith in
-    let q₁ : c₁ ≡ digit_code (b / 16) = ec₁ ∙ ap digit_code whole in
-    let l₁ : c₁ < 128 = rw ec₁ (digit_ascii _ (omega arith)) in
-    let l₂ : c₂ < 128 = rw ec₂ (digit_ascii _ (omega arith)) in
-    f₂ ∙ ap (λ s. s ++ e₂) f₁ ∙ ap (λ s. (s ++ e₁) ++ e₂) et
-    ∙ ap (λ s. (hex (take i bs) ++ s) ++ e₂) (a₁ l₁ ∙ ap (λ d. d ∷ []) q₁)
-    ∙ ap (λ s. (hex (take i bs) ++ (digit_code (b / 16) ∷ [])) ++ s) (a₂ l₂ ∙ ap (λ d. d ∷ []) ec₂)
-    ∙ append_assoc (hex (take i bs)) (digit_code (b / 16) ∷ []) (digit_code (b % 16) ∷ [])
-    ∙ sym (hex_more bs i h)
+-- a byte written by `{:02x}`
+pub written : (bs old new : List ℕ) (i : ℕ) → i < length bs → get_or bs i 0 < 256 → old ≡ hex (take i bs)
+    → new ≡ old ++ padded_integral (format_spec 32 0 4 2 (2 ^ 64 - 1)) false [] (digits 16 false (get_or bs i 0)) → new ≡ hex (take (i + 1) bs)
+written bs old new i inside small before added =
+    added ∙ ap₂ (λ (t u : List ℕ). t ++ u) before (hex_byte false (get_or bs i 0) small) ∙ sym (hex_more bs i inside)

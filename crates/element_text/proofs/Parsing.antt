@@ -1,7 +1,8 @@
 -- A text read byte by byte.
 use Rattle.std.proofs.Common.{◌≡◌, ℕ, zero, suc, ◌+◌, ◌-◌, ◌*◌, ◌/◌, ◌%◌, ◌<◌, ◌≤◌, List, [], ◌∷◌, ◌++◌, length, get_or, take, drop, set, replicate, sym, refl, ap, ◌∙◌, subst, ap₂, arith}
 use native.Mathlib.Decide.{dec_lt}
-use Rattle.std.proofs.lemmas.List.{take_more, append_assoc, take_all, length-take-le, length-set, get_or-take, take-append-drop, drop-set-lt, take_more_set, drop-replicate, drop-drop}
+use native.Mathlib.Nat.{sub-zero}
+use Rattle.std.proofs.lemmas.List.{take_more, append_assoc, take_all, length-take-le, length-set, get_or-take, take-append-drop, drop-set-lt, take_more_set, drop-replicate, drop-drop, length-replicate, take-replicate, length-append, take_at, drop_at}
 use Rattle.level.specs.Element.{Element, cut}
 use Rattle.level.specs.Bytes.{Octets, le_number, from_sixteen}
 use Rattle.element_text.specs.Hex.{hex, byte_count, NoDigit, IsDigit, Parsed, Broken, Pair, Writes}
@@ -43,16 +44,23 @@ hex_next text bs j b h e q =
     ∙ ap₂ (λ (t u : List ℕ). t ++ u) e (ap₂ (λ (x y : ℕ). x ∷ y ∷ []) q.high q.low)
     ∙ sym (hex_append bs (b ∷ []))
 
-pub parsed_more : (text bs : List ℕ) (j b : ℕ) → 2 * j + 1 < length text → j < 16 → b < 256 → Parsed j text bs → Pair text j b → Parsed (j + 1) text (set bs j b)
-parsed_more text bs j b h l small p q =
+-- n bytes: those that the first 2·j characters of a text write, and zeroes after them
+pub record ParsedIn (n j : ℕ) (text bs : List ℕ) : Type 0 where
+  pub length_is : length bs ≡ n
+  pub octets : Octets bs
+  pub text_is : take (2 * j) text ≡ hex (take j bs)
+  pub padded : drop j bs ≡ replicate (n - j) 0
+
+pub parsed_more : (n : ℕ) (text bs : List ℕ) (j b : ℕ) → 2 * j + 1 < length text → j < n → b < 256 → ParsedIn n j text bs → Pair text j b → ParsedIn n (j + 1) text (set bs j b)
+parsed_more n text bs j b h l small p q =
     let inside : j < length bs = omega (arith, p.length_is) in
-    let rest : (16 - j) - 1 ≡ 16 - (j + 1) = omega arith in
+    let rest : (n - j) - 1 ≡ n - (j + 1) = omega arith in
     let shorter : j < j + 1 = omega arith in
     record {
       length_is = length-set bs j b ∙ p.length_is;
       octets = octets_set bs j b p.octets small;
       text_is = hex_next text (take j bs) j b h p.text_is q ∙ sym (ap hex (take_more_set bs j b inside));
-      padded = drop-set-lt (j + 1) bs j b shorter ∙ sym (drop-drop 1 j bs) ∙ ap (drop 1) p.padded ∙ drop-replicate 1 (16 - j) 0 ∙ ap (λ n. replicate n 0) rest;
+      padded = drop-set-lt (j + 1) bs j b shorter ∙ sym (drop-drop 1 j bs) ∙ ap (drop 1) p.padded ∙ drop-replicate 1 (n - j) 0 ∙ ap (λ m. replicate m 0) rest;
     }
 
 -- the first character that is no digit, where the bytes before it were read
@@ -69,9 +77,9 @@ broken_at text bs j at len octets text_is below above none first =
         let e : 2 * j ≡ i = omega arith in
         subst (λ (n : ℕ). IsDigit (get_or text n 0)) e (first (omega arith))
 
-pub broken : (text bs : List ℕ) (j at : ℕ) → Parsed j text bs → j < 16 → at < 2 * j + 2 → 2 * j ≤ at
+pub broken : (n : ℕ) (text bs : List ℕ) (j at : ℕ) → ParsedIn n j text bs → j < n → at < 2 * j + 2 → 2 * j ≤ at
     → NoDigit (get_or text at 0) → (2 * j < at → IsDigit (get_or text (2 * j) 0)) → Broken text at
-broken text bs j at p l =
+broken n text bs j at p l =
     broken_at text (take j bs) j at (length-take-le j bs (omega (arith, p.length_is))) (octets_take j bs p.octets) p.text_is
 
 le_zeroes : (n : ℕ) → le_number (replicate n 0) ≡ 0
@@ -100,7 +108,27 @@ octets_zeroes zero i = omega arith
 octets_zeroes (suc n) zero = omega arith
 octets_zeroes (suc n) (suc i) = octets_zeroes n i
 
--- nothing read yet
-pub zeroes : (text : List ℕ) → Parsed 0 text (replicate 16 0)
+-- nothing read yet, in the first n of sixteen zeroes
+pub zeroes : (n : ℕ) (text : List ℕ) → n ≤ 16 → ParsedIn n 0 text (take n (replicate 16 0))
 unfolding hex
-zeroes text = record { length_is = refl; octets = octets_zeroes 16; text_is = refl; padded = refl }
+zeroes n text h = subst (ParsedIn n 0 text) (sym (take-replicate n 16 0 h)) (record {
+  length_is = length-replicate n 0;
+  octets = octets_zeroes n;
+  text_is = refl;
+  padded = ap (λ m. replicate m 0) (sym (sub-zero n));
+})
+
+octets_append : (xs ys : List ℕ) → Octets xs → Octets ys → Octets (xs ++ ys)
+octets_append [] ys o p i = p i
+octets_append (x ∷ xs) ys o p zero = o 0
+octets_append (x ∷ xs) ys o p (suc i) = octets_append xs ys (λ j. o (suc j)) p i
+
+-- all read, with the others of sixteen zeroes behind
+pub all_read : (n j : ℕ) (text bs : List ℕ) → n ≤ 16 → j ≡ n → ParsedIn n j text bs → Parsed n text (bs ++ drop n (replicate 16 0))
+all_read n j text bs few end p = subst (λ (ys : List ℕ). Parsed n text (bs ++ ys)) (sym (drop-replicate n 16 0)) (record {
+  length_is = omega (arith, length-append bs (replicate (16 - n) 0), length-replicate {A = ℕ} (16 - n) 0, p.length_is);
+  octets = octets_append bs (replicate (16 - n) 0) p.octets (octets_zeroes (16 - n));
+  text_is = subst (λ (m : ℕ). take (2 * m) text ≡ hex (take m bs)) end p.text_is
+      ∙ ap hex (take_all n bs (omega (arith, p.length_is)) ∙ sym (take_at bs (replicate (16 - n) 0) n p.length_is));
+  padded = drop_at bs (replicate (16 - n) 0) n p.length_is;
+})

@@ -1,18 +1,33 @@
 ghost use Rattle.std.specs.Prelude.{◌≡◌, ℕ, ◌+◌, ◌*◌, ◌<◌, ◌≤◌, length, IfOk, string_bytes, MatchResult, slice_index};
 ghost use Rattle.element_text.specs.Faults.{BadText};
-ghost use Rattle.element_text.specs.Hex.{byte_count, element_text, Writes, NoDigit, IsDigit, Parsed, Broken, Pair};
+ghost use Rattle.element_text.specs.declared.element.TextFault.TheVariants.{Digit};
+ghost use Rattle.element_text.specs.Hex.{digit_code, byte_count, element_text, Writes, NoDigit, IsDigit, Parsed, Broken, Pair};
 
 use crate::hex::{digit_value, hex_text};
 use level::level::Level;
 use std::alloc::{AllocError, Global};
 
+// A character of a text that is no lower-case hexadecimal digit, by its place.
+#[derive(Clone, Copy, Debug, PartialEq, Eq)]
+pub struct DigitFault {
+    pub at: usize,
+}
+
 // Why a text does not write an element.
-#[derive(Clone, Copy)]
+#[derive(Clone, Copy, Debug, PartialEq, Eq)]
 pub enum TextFault {
     // The text has another length than two digits for each byte.
     Length { expected: usize, actual: usize },
     // The character at this place, the first such, is no lower-case hexadecimal digit.
     Digit { at: usize },
+}
+
+impl From<DigitFault> for TextFault {
+    ghost from_gives = { λ fault r. r ≡ Digit fault.at };
+
+    fn from(fault: DigitFault) -> TextFault {
+        TextFault::Digit { at: fault.at }
+    }
 }
 
 // How many bytes the text of an element shows.
@@ -39,44 +54,53 @@ pub fn element_text<L: Level>(heap: Global, x: L) -> Result<String, AllocError>
     hex_text(heap, &bytes[0..byte_count::<L>()])
 }
 
-// Byte `j` of a text, or the place of the first of its two characters that is no digit.
-pub fn parse_byte(text: &[u8], j: usize) -> Result<u8, usize>
-    requires { 2 * j + 1 < length text.now }
-    ensures { MatchResult result (Pair text.now j) (λ at. (at < 2 * j + 2) × (2 * j ≤ at) × NoDigit (slice_index text.now at) × (2 * j < at → IsDigit (slice_index text.now (2 * j)))) }
+// The number that the digit at a place of a text stands for.
+fn digit_at(text: &[u8], at: usize) -> Result<u8, DigitFault>
+    requires { at < length text.now }
+    ensures { MatchResult result (λ v. (v < 16) × (slice_index text.now at ≡ digit_code v)) (λ fault. (fault.at ≡ at) × NoDigit (slice_index text.now at)) }
 {
-    let Some(high) = digit_value(text[2 * j]) else {
-        return Err(2 * j);
-    };
-    let Some(low) = digit_value(text[2 * j + 1]) else {
-        return Err(2 * j + 1);
-    };
+    digit_value(text[at]).ok_or(DigitFault { at })
+}
+
+// Byte `j` of a text, or the first of its two characters that is no digit.
+pub fn parse_byte(text: &[u8], j: usize) -> Result<u8, DigitFault>
+    requires { 2 * j + 1 < length text.now }
+    ensures { MatchResult result (Pair text.now j) (λ fault. (fault.at < 2 * j + 2) × (2 * j ≤ fault.at) × NoDigit (slice_index text.now fault.at) × (2 * j < fault.at → IsDigit (slice_index text.now (2 * j)))) }
+{
+    let high = digit_at(text, 2 * j)?;
+    let low = digit_at(text, 2 * j + 1)?;
     Ok(16 * high + low)
 }
 
-// The bytes that a text writes, and zeroes after them, or the place of its first character that is no digit.
-fn parse_bytes(text: &[u8], count: usize) -> Result<[u8; 16], usize>
+// The bytes that a text writes, and zeroes after them, or its first character that is no digit.
+fn parse_bytes(text: &[u8], count: usize) -> Result<[u8; 16], DigitFault>
     requires { (length text.now ≡ 2 * count) × (count ≤ 16) }
-    ensures { MatchResult result (Parsed count text.now) (λ at. (at < 2 * count) × Broken text.now at) }
+    ensures { MatchResult result (Parsed count text.now) (λ fault. (fault.at < 2 * count) × Broken text.now fault.at) }
 {
     let mut bytes = [0u8; 16];
-    for j in 0..count {
-        bytes[j] = parse_byte(text, j)?;
+    for (j, byte) in bytes[..count].iter_mut().enumerate() {
+        *byte = parse_byte(text, j)?;
     }
     Ok(bytes)
+}
+
+// The element that a text of the right length writes.
+pub fn parse_digits<L: Level>(text: &[u8]) -> Result<L, DigitFault>
+    requires { length text.now ≡ 2 * byte_count L.Level.log }
+    ensures { MatchResult result (λ x. Writes text.now (L.means x)) (λ fault. (fault.at < 2 * byte_count L.Level.log) × Broken text.now fault.at) }
+{
+    let bytes = parse_bytes(text, byte_count::<L>())?;
+    Ok(L::from_bytes(bytes))
 }
 
 // The element that a text writes.
 pub fn parse_element<L: Level>(text: &[u8]) -> Result<L, TextFault>
     ensures { MatchResult result (λ x. Writes text.now (L.means x)) (BadText (2 * byte_count L.Level.log) text.now) }
 {
-    let count = byte_count::<L>();
-    let expected = 2 * count;
+    let expected = 2 * byte_count::<L>();
     let actual = text.len();
     if actual != expected {
         return Err(TextFault::Length { expected, actual });
     }
-    match parse_bytes(text, count) {
-        Ok(bytes) => Ok(L::from_bytes(bytes)),
-        Err(at) => Err(TextFault::Digit { at }),
-    }
+    Ok(parse_digits(text)?)
 }

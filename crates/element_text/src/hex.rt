@@ -3,22 +3,11 @@ ghost use Rattle.element_text.specs.Hex.{digit_code, hex, NoDigit};
 
 use std::alloc::{AllocError, Global};
 
-// The digit that stands for the low four bits of `v`.
-pub fn digit_char(v: u8) -> char
-    ensures { result ≡ digit_code (v % 16) }
-{
-    let d = v % 16;
-    if d < 10 {
-        char::from(b'0' + d)
-    } else {
-        char::from(b'a' + (d - 10))
-    }
-}
-
 // The number that a lower-case hexadecimal digit stands for.
 pub fn digit_value(c: u8) -> Option<u8>
     ensures { MatchOption result (NoDigit c) (λ v. (v < 16) × (c ≡ digit_code v)) }
 {
+    // Not `to_digit`, which takes upper-case digits too.
     match c {
         b'0'..=b'9' => Some(c - b'0'),
         b'a'..=b'f' => Some(c - b'a' + 10),
@@ -32,8 +21,7 @@ pub fn hex_text(heap: Global, bytes: &[u8]) -> Result<String, AllocError>
 {
     let mut text = String::new(heap);
     for b in bytes {
-        text.push(digit_char(*b / 16))?;
-        text.push(digit_char(*b))?;
+        write!(text, "{b:02x}")?;
     }
     Ok(text)
 }

@@ -1,43 +1,67 @@
--- A table that is being widened, entry by entry.
-use Rattle.std.proofs.Common.{◌≡◌, ℕ, ◌+◌, ◌<◌, ◌≤◌, ◌≢◌, List, length, get_or, set, refl, ap, ◌∙◌, arith, length-set, below_more}
-use Rattle.level.specs.Element.{Element, plus}
+-- A table that is being widened, entry by entry: its entries in the lower half, and room in the upper.
+use Rattle.std.proofs.Common.{◌≡◌, ℕ, ◌+◌, ◌-◌, ◌<◌, ◌≤◌, List, ◌++◌, map, length, get_or, set, sym, refl, ap, ◌∙◌, arith, below_more}
+use lib.ListN.{length-map}
+use Rattle.std.proofs.lemmas.List.{get_or_append_left, get_or-append_right, get_or-map, map-append}
+use Rattle.level.specs.Element.{Element, plus, zeros}
 use Rattle.level.specs.Laws.{Arithmetic}
 use Rattle.multilinear.specs.Lent.{lent}
-use Rattle.multilinear.proofs.Lent.{lent_read, lent_written, lent_kept}
+use Rattle.multilinear.proofs.Lent.{lent_written, lent_kept}
 use Rattle.equality.specs.Tables.{Widened}
 
--- the entries below `done` are split, and the others stand as they were
-pub record Widening {k : ℕ} (A : Arithmetic k) (x : Element k) (half done : ℕ) (before after : ℕ → Element k) : Type 0 where
-  pub low : (i : ℕ) → i < done → after i ≡ plus (before i) (A.times x (before i))
-  pub high : (i : ℕ) → i < done → after (half + i) ≡ A.times x (before i)
-  pub kept : (i : ℕ) → done ≤ i → i < half → after i ≡ before i
-  pub rest : (i : ℕ) → half + half ≤ i → after i ≡ before i
+-- the entries below `done` are split between the halves, and the others stand as they were
+pub record Widening {k : ℕ} (A : Arithmetic k) (x : Element k) (done : ℕ) (low_before high_before low high : ℕ → Element k) : Type 0 where
+  pub first : (i : ℕ) → i < done → low i ≡ plus (low_before i) (A.times x (low_before i))
+  pub second : (i : ℕ) → i < done → high i ≡ A.times x (low_before i)
+  pub kept : (i : ℕ) → done ≤ i → low i ≡ low_before i
+  pub rest : (i : ℕ) → done ≤ i → high i ≡ high_before i
 
-module _ {k : ℕ} (A : Arithmetic k) (x : Element k) (half : ℕ) where
-  pub widening_begins : (before : ℕ → Element k) → Widening A x half 0 before before
-  widening_begins before = record { low = λ i h. absurd (omega arith); high = λ i h. absurd (omega arith); kept = λ i h l. refl; rest = λ i h. refl }
+module _ {X : Type 0} {k : ℕ} (means : X → Element k) where
+  -- two halves joined
+  lent_front : (xs ys : List X) (i : ℕ) → i < length xs → lent means (xs ++ ys) i ≡ lent means xs i
+  lent_front xs ys i h =
+      ap (λ zs. get_or zs i (zeros k)) (map-append means xs ys) ∙ get_or_append_left (map means xs) (map means ys) (zeros k) i (omega (arith, length-map xs means))
 
-  -- one entry more
-  pub widening_more : {X : Type 0} (means : X → Element k) (done : ℕ) (before : ℕ → Element k) (xs : List X) (t low high : X)
-      → done < half → half + half ≤ length xs → t ≡ get_or xs done t
-      → means low ≡ plus (means t) (A.times x (means t)) → means high ≡ A.times x (means t)
-      → Widening A x half done before (lent means xs)
-      → Widening A x half (done + 1) before (lent means (set (set xs done low) (half + done) high))
-  widening_more means done before xs t low high h fits read l r w =
-      let ys = set xs done low in
-      let zs = set ys (half + done) high in
-      let entry : means t ≡ before done = lent_read means xs done t (omega arith) read ∙ w.kept done (omega arith) h in
-      let other : (j : ℕ) → j ≢ done → j ≢ half + done → lent means zs j ≡ lent means xs j =
-      λ j a b. lent_kept means ys (half + done) j high b ∙ lent_kept means xs done j low a in
-      record {
-        low = below_more _ done (λ i g. other i (omega arith) (omega arith) ∙ w.low i g)
-            (lent_kept means ys (half + done) done high (omega arith) ∙ lent_written means xs done low (omega arith) ∙ l
-            ∙ ap (λ e. plus e (A.times x e)) entry);
-        high = below_more _ done (λ i g. other (half + i) (omega arith) (omega arith) ∙ w.high i g)
-            (lent_written means ys (half + done) high (omega (arith, length-set xs done low)) ∙ r ∙ ap (A.times x) entry);
-        kept = λ i g b. other i (omega arith) (omega arith) ∙ w.kept i (omega arith) b;
-        rest = λ i g. other i (omega arith) (omega arith) ∙ w.rest i g;
-      }
+  lent_back : (xs ys : List X) (n i : ℕ) → length xs ≡ n → n ≤ i → lent means (xs ++ ys) i ≡ lent means ys (i - n)
+  lent_back xs ys n i size h =
+      ap (λ zs. get_or zs i (zeros k)) (map-append means xs ys)
+      ∙ get_or-append_right (map means xs) (map means ys) n i (zeros k) (length-map xs means ∙ size) h
 
-  pub widening_ends : (done : ℕ) (before after : ℕ → Element k) → half ≤ done → Widening A x half done before after → Widened A x half before after
-  widening_ends done before after h w = record { low = λ i g. w.low i (omega arith); high = λ i g. w.high i (omega arith); rest = w.rest }
+  module _ (A : Arithmetic k) (x : Element k) where
+    pub widening_begins : (low high : ℕ → Element k) → Widening A x 0 low high low high
+    widening_begins low high =
+        record { first = λ i h. absurd (omega arith); second = λ i h. absurd (omega arith); kept = λ i h. refl; rest = λ i h. refl }
+
+    -- one entry more
+    pub widening_more : (done : ℕ) (low_before high_before : ℕ → Element k) (lows highs : List X) (t low high : X)
+        → done < length lows → done < length highs
+        → means low ≡ plus (means (get_or lows done t)) (A.times x (means (get_or lows done t))) → means high ≡ A.times x (means (get_or lows done t))
+        → Widening A x done low_before high_before (lent means lows) (lent means highs)
+        → Widening A x (done + 1) low_before high_before (lent means (set lows done low)) (lent means (set highs done high))
+    widening_more done low_before high_before lows highs t low high h fits l r w =
+        let entry : means (get_or lows done t) ≡ low_before done = sym (get_or-map means lows done t (zeros k) h) ∙ w.kept done (omega arith) in
+        record {
+          first = below_more _ done (λ i g. lent_kept means lows done i low (omega arith) ∙ w.first i g)
+              (lent_written means lows done low h ∙ l ∙ ap (λ e. plus e (A.times x e)) entry);
+          second = below_more _ done (λ i g. lent_kept means highs done i high (omega arith) ∙ w.second i g)
+              (lent_written means highs done high fits ∙ r ∙ ap (A.times x) entry);
+          kept = λ i g. lent_kept means lows done i low (omega arith) ∙ w.kept i (omega arith);
+          rest = λ i g. lent_kept means highs done i high (omega arith) ∙ w.rest i (omega arith);
+        }
+
+    pub widening_ends : (half done : ℕ) (before lows_before highs_before lows highs : List X) → before ≡ lows_before ++ highs_before
+        → length lows_before ≡ half → length lows ≡ half → half ≤ done → done ≤ half
+        → Widening A x done (lent means lows_before) (lent means highs_before) (lent means lows) (lent means highs)
+        → Widened A x half (lent means before) (lent means (lows ++ highs))
+    widening_ends half done before lows_before highs_before lows highs parts size_before size all most w =
+        let front : (i : ℕ) → i < half → lent means lows_before i ≡ lent means before i =
+        λ i g. sym (ap (λ xs. lent means xs i) parts ∙ lent_front lows_before highs_before i (omega arith)) in
+        record {
+          low = λ i g. lent_front lows highs i (omega arith) ∙ w.first i (omega arith) ∙ ap (λ e. plus e (A.times x e)) (front i g);
+          high = λ i g.
+              let place : half + i - half ≡ i = omega arith in
+              lent_back lows highs half (half + i) size (omega arith) ∙ ap (lent means highs) place ∙ w.second i (omega arith)
+              ∙ ap (A.times x) (front i g);
+          rest = λ i g.
+              lent_back lows highs half i size (omega arith) ∙ w.rest (i - half) (omega arith)
+              ∙ sym (ap (λ xs. lent means xs i) parts ∙ lent_back lows_before highs_before half i size_before (omega arith));
+        }

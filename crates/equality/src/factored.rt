@@ -43,32 +43,37 @@ pub fn factor<L: Level>(outer: &mut [L], inner: &mut [L], point: &[L], start: L)
     equality_table(inner, last, start);
 }
 
-// What stands at a place of a table.
-fn at<L: Level>(table: &[L], i: usize) -> L
-    requires { i < length table.now }
-    ensures { L.means result ≡ lent L.means table.now i }
-{
-    table[i]
+// Where an entry stands in a table of blocks: its block, and its place in the block.
+#[derive(Clone, Copy)]
+struct Position {
+    block: usize,
+    place: usize,
 }
 
-// Where an entry stands in blocks of `len` entries: its block, and its place in the block. A length that is a power of two, as that of
-// every equality table is, takes no division.
-fn split_index(index: usize, len: usize) -> (usize, usize)
+// Where an entry stands in blocks of `len` entries. A length that is a power of two, as that of every equality table is, takes no
+// division.
+fn split_index(index: usize, len: usize) -> Position
     requires { 0 < len }
-    ensures block { result.0 ≡ index / len }
-    ensures place { result.1 ≡ index % len }
+    ensures block { result.block ≡ index / len }
+    ensures place { result.place ≡ index % len }
 {
-    let log = len.trailing_zeros() % 64;
+    let log = len.trailing_zeros();
     if 1 << log == len {
-        (index >> log, index & (len - 1))
+        Position {
+            block: index >> log,
+            place: index & (len - 1),
+        }
     } else {
-        (index / len, index % len)
+        Position {
+            block: index / len,
+            place: index % len,
+        }
     }
 }
 
 // The equality table of a point, held as an outer factor, with an entry for each block, times an inner factor, with an entry for
 // each place of a block.
-#[derive(Clone, Copy)]
+#[derive(Clone, Copy, Debug)]
 pub struct FactoredEquality<'a, L> {
     pub outer: &'a [L],
     pub inner: &'a [L],
@@ -90,21 +95,12 @@ impl<'a, L: Level> FactoredEquality<'a, L> {
         self.outer.len() * self.block_len()
     }
 
-    // The product of an entry of each factor.
-    fn product(&self, block: usize, place: usize) -> L
-        requires { (block < length self.now.outer.now) × (place < length self.now.inner.now) }
-        ensures { L.means result ≡ L.arithmetic.times (lent L.means self.now.outer.now block) (lent L.means self.now.inner.now place) }
+    // The entry at a position: the product of an entry of each factor.
+    fn product(&self, position: Position) -> L
+        requires { (position.block < length self.now.outer.now) × (position.place < length self.now.inner.now) }
+        ensures { L.means result ≡ L.arithmetic.times (lent L.means self.now.outer.now position.block) (lent L.means self.now.inner.now position.place) }
     {
-        at(self.outer, block).mul(at(self.inner, place))
-    }
-
-    // Where an entry stands: its block, and its place in the block.
-    fn position(&self, index: usize) -> (usize, usize)
-        requires { 0 < length self.now.inner.now }
-        ensures block { result.0 ≡ index / length self.now.inner.now }
-        ensures place { result.1 ≡ index % length self.now.inner.now }
-    {
-        split_index(index, self.block_len())
+        self.outer[position.block].mul(self.inner[position.place])
     }
 
     // The last entry of a block.
@@ -112,7 +108,8 @@ impl<'a, L: Level> FactoredEquality<'a, L> {
         requires { (block < length self.now.outer.now) × (0 < length self.now.inner.now) }
         ensures { L.means result ≡ L.arithmetic.times (lent L.means self.now.outer.now block) (lent L.means self.now.inner.now (length self.now.inner.now - 1)) }
     {
-        self.product(block, self.block_len() - 1)
+        let place = self.block_len() - 1;
+        self.product(Position { block, place })
     }
 
     // Entry `index` of the table.
@@ -120,8 +117,7 @@ impl<'a, L: Level> FactoredEquality<'a, L> {
         requires { index < length self.now.outer.now * length self.now.inner.now }
         ensures { (s : Element L.Level.log) (p : Point L.Level.log) → Factors L.means L.arithmetic s p self.now.outer.now self.now.inner.now → L.means result ≡ entry L.arithmetic s p index }
     {
-        let (block, place) = self.position(index);
-        self.product(block, place)
+        self.product(split_index(index, self.block_len()))
     }
 
     // The entry before block `index` begins, and zero at the first block.

@@ -19,10 +19,13 @@ fn widen<L: Level>(table: &mut [L], half: usize, x: L)
     requires { half + half ≤ length table.old }
     ensures { Widened L.arithmetic (L.means x) half (lent L.means table.old) (lent L.means table.new) }
 {
-    for i in 0..half {
-        let (low, high) = split(table[i], x);
-        table[i] = low;
-        table[half + i] = high;
+    let (low, high) = table.split_at_mut(half);
+
+    // An index into the upper half, since of what is written through a zip of the two a proof knows only the length.
+    for (i, entry) in low.iter_mut().enumerate() {
+        let (at_zero, at_one) = split(*entry, x);
+        *entry = at_zero;
+        high[i] = at_one;
     }
 }
 
@@ -34,8 +37,8 @@ pub fn equality_table<L: Level>(table: &mut [L], point: &[L], start: L)
 {
     table[0] = start;
     let mut half = 1;
-    for c in (0..point.len()).rev() {
-        widen(table, half, point[c]);
+    for x in point.iter().rev() {
+        widen(table, half, *x);
         half *= 2;
     }
 }

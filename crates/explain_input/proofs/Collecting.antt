@@ -1,56 +1,51 @@
--- The texts of a key, line by line.
-use Rattle.std.proofs.Common.{◌≡◌, ℕ, suc, ◌<◌, true, false, eqb, List, [], ◌∷◌, ◌++◌, map, length, is_some, Some, None, Option, sym, ap, ◌∙◌, arith}
-use Rattle.std.proofs.lemmas.List.{append_assoc, append-nil, map_push, nil_from_length}
-use Rattle.std.proofs.lemmas.Bool.{cond-true, cond-false, eqb-true, true≢false}
-use Rattle.std.specs.Option.{option_map, option_to_list}
+-- The texts of a key, line by line, and the first line that is not readable.
+use Rattle.std.proofs.Common.{◌≡◌, ℕ, zero, suc, ◌+◌, ◌<◌, ◌≤◌, true, false, eqb, List, [], ◌∷◌, ◌++◌, length, get_or, Some, None, refl, sym, ap, ◌∙◌, arith}
+use Rattle.std.proofs.lemmas.List.{nil_from_length}
+use Rattle.std.proofs.lemmas.Bool.{cond_both, cond-true, cond-false, eqb-true}
+use Rattle.std.specs.Option.{option_to_list}
 use Rattle.explain_input.specs.declared.key.Key.{Key}
-use Rattle.explain_input.specs.Keys.{after, word_of, lines, texts, readable, unreadable}
+use Rattle.explain_input.specs.Keys.{in_front, after, word_of, lines, texts, readable, unreadable}
 
-no_lines : (rest : List ℕ) → true ≡ eqb (length rest) 0 → lines rest ≡ []
+pub no_lines : (text : List ℕ) → true ≡ eqb (length text) 0 → lines text ≡ []
 unfolding lines
-no_lines rest e = ap lines (nil_from_length rest (eqb-true (length rest) 0 (sym e)))
+no_lines text e = ap lines (nil_from_length text (eqb-true (length text) 0 (sym e)))
+
+-- a text has no more lines than characters
+pub few_lines : (text : List ℕ) → length (lines text) ≤ length text
+unfolding lines
+few_lines [] = omega arith
+few_lines (c ∷ text) =
+    cond_both (eqb c 10) ([] ∷ lines text) (in_front c (lines text)) (λ ls. length ls ≤ suc (length text))
+    (λ _. omega (arith, few_lines text)) (λ _. in_first (lines text) (few_lines text))
+  where
+    in_first : (ls : List (List ℕ)) → length ls ≤ length text → length (in_front c ls) ≤ suc (length text)
+    in_first [] h = omega arith
+    in_first (l ∷ ls) h = omega arith
 
 -- ls is line and the lines after it
-module _ (key : Key) (all : List (List ℕ)) (ls : List (List ℕ)) (line : List ℕ) (more : List (List ℕ)) (first : ls ≡ line ∷ more) where
-  -- one more line, with or without a text of the key
-  texts_more : (found : List (List ℕ)) (o : Option (List ℕ)) → all ≡ found ++ texts key ls → o ≡ after (word_of key) line
-      → all ≡ (found ++ option_to_list o) ++ texts key more
+module _ (key : Key) (ls : List (List ℕ)) (line : List ℕ) (more : List (List ℕ)) (first : ls ≡ line ∷ more) where
+  pub texts_pass : None ≡ after (word_of key) line → texts key ls ≡ texts key more
   unfolding texts
-  texts_more found o e text =
-      e ∙ ap (λ l. found ++ texts key l) first ∙ ap (λ p. found ++ (option_to_list p ++ texts key more)) (sym text)
-      ∙ sym (append_assoc found (option_to_list o) (texts key more))
+  texts_pass text = ap (texts key) first ∙ ap (λ o. option_to_list o ++ texts key more) (sym text)
 
-  pub texts_pass : (found : List (List ℕ)) → all ≡ found ++ texts key ls → None ≡ after (word_of key) line → all ≡ found ++ texts key more
-  texts_pass found e text = texts_more found None e text ∙ ap (λ f. f ++ texts key more) (append-nil found)
+  pub texts_first : (t : List ℕ) → Some t ≡ after (word_of key) line → texts key ls ≡ t ∷ texts key more
+  unfolding texts
+  texts_first t text = ap (texts key) first ∙ ap (λ o. option_to_list o ++ texts key more) (sym text)
 
-  pub texts_push : {X : Type 0} (f : X → List ℕ) (found : List X) (x : X) → all ≡ map f found ++ texts key ls → Some (f x) ≡ after (word_of key) line
-      → all ≡ map f (found ++ (x ∷ [])) ++ texts key more
-  texts_push f found x e text = texts_more (map f found) (Some (f x)) e text ∙ ap (λ g. g ++ texts key more) (sym (map_push f found x))
-
-  -- a text where one was found already
-  pub texts_twice : {X : Type 0} (f : X → List ℕ) (found : Option X) (x : X) → all ≡ option_to_list (option_map f found) ++ texts key ls → Some (f x) ≡ after (word_of key) line
-      → true ≡ is_some found → 1 < length all
-  texts_twice f None x e text is = absurd (true≢false is)
-  texts_twice f (Some y) x e text is = omega (arith, ap length (texts_more (f y ∷ []) (Some (f x)) e text))
-
-  -- a text where none was found yet
-  pub texts_once : {X : Type 0} (f : X → List ℕ) (found : Option X) (x : X) → all ≡ option_to_list (option_map f found) ++ texts key ls → Some (f x) ≡ after (word_of key) line
-      → false ≡ is_some found → all ≡ f x ∷ texts key more
-  texts_once f None x e text is = texts_more [] (Some (f x)) e text
-  texts_once f (Some y) x e text is = absurd (true≢false (sym is))
-
-pub texts_end : (key : Key) (all found : List (List ℕ)) (rest : List ℕ) → true ≡ eqb (length rest) 0 → all ≡ found ++ texts key (lines rest) → all ≡ found
+pub texts_end : (key : Key) (ls : List (List ℕ)) → ls ≡ [] → texts key ls ≡ []
 unfolding texts
-texts_end key all found rest end e = e ∙ ap (λ l. found ++ texts key l) (no_lines rest end) ∙ append-nil found
+texts_end key ls e = ap (texts key) e
 
-pub unreadable_more : (n : ℕ) (ls : List (List ℕ)) (line : List ℕ) (more : List (List ℕ)) → ls ≡ line ∷ more → true ≡ readable line → unreadable n ls ≡ unreadable (suc n) more
+pub unreadable_at : (n : ℕ) (ls : List (List ℕ)) (i : ℕ) → i < length ls → readable (get_or ls i []) ≡ false → ((k : ℕ) → k < i → readable (get_or ls k []) ≡ true) → unreadable n ls ≡ Some (i + n)
 unfolding unreadable
-unreadable_more n ls line more first r = ap (unreadable n) first ∙ cond-true (readable line) (unreadable (suc n) more) (Some n) (sym r)
+unreadable_at n [] i h here before = absurd (omega arith)
+unreadable_at n (l ∷ ls) zero h here before = cond-false (readable l) (unreadable (suc n) ls) (Some n) here ∙ ap Some (let e : n ≡ 0 + n = omega arith in e)
+unreadable_at n (l ∷ ls) (suc i) h here before =
+    cond-true (readable l) (unreadable (suc n) ls) (Some n) (before 0 (omega arith))
+    ∙ unreadable_at (suc n) ls i (omega arith) here (λ k j. before (suc k) (omega arith)) ∙ ap Some (let e : i + suc n ≡ suc i + n = omega arith in e)
 
-pub unreadable_here : (n : ℕ) (ls : List (List ℕ)) (line : List ℕ) (more : List (List ℕ)) → ls ≡ line ∷ more → false ≡ readable line → unreadable n ls ≡ Some n
+pub unreadable_none : (n : ℕ) (ls : List (List ℕ)) → ((k : ℕ) → k < length ls → readable (get_or ls k []) ≡ true) → unreadable n ls ≡ None
 unfolding unreadable
-unreadable_here n ls line more first r = ap (unreadable n) first ∙ cond-false (readable line) (unreadable (suc n) more) (Some n) (sym r)
-
-pub unreadable_end : (n : ℕ) (rest : List ℕ) → true ≡ eqb (length rest) 0 → unreadable n (lines rest) ≡ None
-unfolding unreadable
-unreadable_end n rest end = ap (unreadable n) (no_lines rest end)
+unreadable_none n [] all = refl
+unreadable_none n (l ∷ ls) all =
+    cond-true (readable l) (unreadable (suc n) ls) (Some n) (all 0 (omega arith)) ∙ unreadable_none (suc n) ls (λ k j. all (suc k) (omega arith))

@@ -1,5 +1,5 @@
 -- What follows a word at the start of a line.
-use Rattle.std.proofs.Common.{◌≡◌, ℕ, ◌<◌, eqb, List, [], ◌∷◌, ◌++◌, length, get_or, drop, Some, None, refl, ◌∙◌, ap₂, arith}
+use Rattle.std.proofs.Common.{◌≡◌, ℕ, eqb, List, [], ◌∷◌, ◌++◌, None, refl, ◌∙◌, ap₂}
 use Rattle.std.proofs.lemmas.Bool.{cond_both, cond-true, eqb-true, eq-eqb}
 use Rattle.explain_input.specs.Keys.{spaced, after}
 
@@ -16,7 +16,3 @@ after_none (a ∷ word) (c ∷ line) h =
     cond_both (eqb c a) (after word line) None (λ x. x ≡ None)
     (λ t. after_none word line (λ rest e. h rest (ap₂ (λ (x : ℕ) (l : List ℕ). x ∷ l) (eqb-true c a t) e)))
     (λ f. refl)
-
-pub spaced_after : (rest : List ℕ) → 0 < length rest → get_or rest 0 0 ≡ 32 → spaced rest ≡ Some (drop 1 rest)
-spaced_after [] h e = absurd (omega arith)
-spaced_after (c ∷ rest) h e = cond-true (eqb c 32) (Some rest) None (eq-eqb c 32 e)

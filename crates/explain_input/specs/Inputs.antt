@@ -1,6 +1,7 @@
 -- What an input says, and why one is refused.
 use Rattle.std.specs.Prelude.{◌≡◌, ℕ, ◌<◌, Bool, true, false, ◌≢◌, List, [], ◌∷◌, map, length, is_some, Some, None, vec_items, Option}
 use Rattle.std.specs.Option.{option_map, option_to_list}
+use Rattle.level_name.specs.Names.{letter_of}
 use Rattle.explain_input.specs.Keys.{lines, texts, unreadable}
 use Rattle.explain_input.specs.Values.{Number, NoNumber, Letter, NoLetter}
 use Rattle.explain_input.specs.declared.fault.InputFault.{InputFault}
@@ -21,7 +22,7 @@ pub record Parts : Type 0 where
 
 abbrev pub parts_of : Input → Parts
 parts_of i = record {
-  letter = i.letter;
+  letter = letter_of i.level;
   bits = i.bits.now;
   point = i.point.now;
   view = i.view;

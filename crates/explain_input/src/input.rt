@@ -2,20 +2,21 @@ ghost use Rattle.std.specs.Prelude.{◌≡◌, true, [], ◌∷◌, MatchResult}
 ghost use Rattle.explain_input.specs.Inputs.{parts_of, Says, BadInput, Optional, needed, single, RefusedSayNothing};
 ghost use Rattle.explain_input.specs.Keys.{lines, texts};
 ghost use Rattle.explain_input.specs.Values.{Number, Letter};
+ghost use Rattle.level_name.specs.Names.{letter_of};
 ghost use Rattle.explain_input.specs.declared.key.Key.TheVariants.{Level, View};
 ghost use Rattle.std.specs.Option.{option_map, option_to_list};
 
 use crate::fault::InputFault;
 use crate::key::Key;
-use crate::lines::{all_texts, first_unreadable, single_text};
-use crate::number::{parse_letter, parse_number};
+use crate::lines::{Texts, first_unreadable};
+use crate::number::{parse_level, parse_number};
+use level_name::LevelName;
 use std::alloc::Global;
 
 // The parts of an input, as texts of it: a list of elements has single spaces between them.
 #[derive(Drop)]
 pub struct Input<'a> {
-    // The letter of the level.
-    pub letter: char,
+    pub level: LevelName,
     // The bytes of the table in hexadecimal.
     pub bits: &'a [u8],
     // The elements of the point.
@@ -35,9 +36,11 @@ fn optional_text<'a>(text: &'a [u8], key: Key) -> Result<Option<&'a [u8]>, Input
     requires { single key ≡ true }
     ensures { MatchResult result (λ o. texts key (lines text.now) ≡ option_to_list (option_map (λ x. x.now) o)) (BadInput text.now) }
 {
-    match single_text(text, key) {
-        Ok(found) => Ok(found),
-        Err(()) => Err(InputFault::Twice { key }),
+    let mut found = Texts::new(text, key);
+    let first = found.next();
+    match found.next() {
+        Some(_) => Err(InputFault::Twice { key }),
+        None => Ok(first),
     }
 }
 
@@ -46,32 +49,23 @@ fn needed_text<'a>(text: &'a [u8], key: Key) -> Result<&'a [u8], InputFault>
     requires { (single key ≡ true) × (needed key ≡ true) }
     ensures { MatchResult result (λ t. texts key (lines text.now) ≡ t.now ∷ []) (BadInput text.now) }
 {
-    match optional_text(text, key)? {
-        Some(found) => Ok(found),
-        None => Err(InputFault::Missing { key }),
-    }
+    optional_text(text, key)?.ok_or(InputFault::Missing { key })
 }
 
-// The letter of the level.
-fn read_letter(text: &[u8]) -> Result<char, InputFault>
-    ensures { MatchResult result (λ c. (texts Level (lines text.now) ≡ (c ∷ []) ∷ []) × Letter (c ∷ []) c) (BadInput text.now) }
+// The level.
+fn read_level(text: &[u8]) -> Result<LevelName, InputFault>
+    ensures { MatchResult result (λ level. (texts Level (lines text.now) ≡ (letter_of level ∷ []) ∷ []) × Letter (letter_of level ∷ []) (letter_of level)) (BadInput text.now) }
 {
-    match parse_letter(needed_text(text, Key::Level)?) {
-        Some(letter) => Ok(letter),
-        None => Err(InputFault::Letter),
-    }
+    parse_level(needed_text(text, Key::Level)?).ok_or(InputFault::Letter)
 }
 
 // The row variables of the view.
 fn read_view(text: &[u8]) -> Result<Option<usize>, InputFault>
     ensures { MatchResult result (Optional Number (texts View (lines text.now))) (BadInput text.now) }
 {
-    let Some(digits) = optional_text(text, Key::View)? else {
-        return Ok(None);
-    };
-    match parse_number(digits) {
-        Some(number) => Ok(Some(number)),
-        None => Err(InputFault::Number),
+    match optional_text(text, Key::View)? {
+        Some(digits) => Ok(Some(parse_number(digits).ok_or(InputFault::Number)?)),
+        None => Ok(None),
     }
 }
 
@@ -82,7 +76,7 @@ pub fn read_input<'a>(heap: Global, text: &'a [u8]) -> Result<Input<'a>, InputFa
     if let Some(number) = first_unreadable(text) {
         return Err(InputFault::Line { number });
     }
-    let letter = read_letter(text)?;
+    let level = read_level(text)?;
     let bits = needed_text(text, Key::Bits)?;
     let point = needed_text(text, Key::Point)?;
     let view = read_view(text)?;
@@ -91,9 +85,9 @@ pub fn read_input<'a>(heap: Global, text: &'a [u8]) -> Result<Input<'a>, InputFa
     if challenge.is_some() && batching.is_none() {
         return Err(InputFault::NoBatching);
     }
-    let closings = all_texts(heap, text, Key::Closing)?;
+    let closings = Texts::new(text, Key::Closing).collect(heap)?;
     Ok(Input {
-        letter,
+        level,
         bits,
         point,
         view,
@@ -121,7 +115,9 @@ mod tests {
         match read_input(rt.alloc(), text) {
             Ok(input) => {
                 assert!(rt;
-                    input.letter == 'b' && input.view == Some(4) && input.closings.len() == 2
+                    input.level == LevelName::TowerByte
+                        && input.view == Some(4)
+                        && input.closings.len() == 2
                 );
                 Ok(())
             },

@@ -1,9 +1,11 @@
-ghost use Rattle.std.specs.Prelude.{◌≡◌};
+ghost use Rattle.std.specs.Prelude.{◌≡◌, Some};
 ghost use Rattle.explain_input.specs.Keys.{word_of, spaced, after, given, keyed, Reading};
 ghost use Rattle.std.specs.Option.{option_map};
 
+use std::fmt;
+
 // What a line of the input gives.
-#[derive(Clone, Copy)]
+#[derive(Clone, Copy, Debug, PartialEq, Eq, Hash)]
 pub enum Key {
     Level,
     Bits,
@@ -15,6 +17,17 @@ pub enum Key {
 }
 
 impl Key {
+    // Every key.
+    const ALL: [Key; 7] = [
+        Key::Level,
+        Key::Bits,
+        Key::Point,
+        Key::View,
+        Key::Batching,
+        Key::Challenge,
+        Key::Closing,
+    ];
+
     // The word that a line of this key begins with.
     pub fn word(self) -> &'static str
         ensures { result.now ≡ word_of self }
@@ -28,6 +41,14 @@ impl Key {
             Key::Challenge => "challenge",
             Key::Closing => "closing",
         }
+    }
+}
+
+impl fmt::Display for Key {
+    ghost output = { λ key. Some (word_of key) };
+
+    fn fmt<W: fmt::Write>(&self, f: &mut fmt::Formatter<W>) -> fmt::Result {
+        f.write_str(self.word())
     }
 }
 
@@ -68,13 +89,7 @@ fn gives(line: &[u8], key: Key) -> bool
 pub(crate) fn has_key(line: &[u8]) -> bool
     ensures { result ≡ keyed line.now }
 {
-    gives(line, Key::Level)
-        || gives(line, Key::Bits)
-        || gives(line, Key::Point)
-        || gives(line, Key::View)
-        || gives(line, Key::Batching)
-        || gives(line, Key::Challenge)
-        || gives(line, Key::Closing)
+    Key::ALL.iter().any(|key| gives(line, *key))
 }
 
 // What the lines of a text are, and what a line gives for a word.

@@ -6,4 +6,3 @@ pub mod input;
 pub mod key;
 mod lines;
 mod number;
-pub mod words;

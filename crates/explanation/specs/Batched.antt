@@ -7,8 +7,8 @@ use Rattle.explanation.specs.declared.steps.BatchedSlot.{BatchedSlot}
 
 abbrev pub batching_of : {X : Type 0} {k : ℕ} → (X → Element k) → BatchedSlot X → Batching k
 batching_of means b = record {
-  slot = map means b.slot.now;
-  batching = map means b.batching.now;
-  stepping = steps means b.stepping;
+  slot = map means b.batching.slot.now;
+  batching = map means b.batching.point.now;
+  stepping = steps means b.batching.stepping;
   initial = means b.initial;
 }

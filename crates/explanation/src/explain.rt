@@ -1,52 +1,32 @@
-ghost use Rattle.std.specs.Prelude.{◌≡◌, true, IfOk, string_bytes};
-ghost use Rattle.explain_input.specs.Inputs.{parts_of};
-ghost use Rattle.explain_input.specs.Values.{level_letter};
-ghost use Rattle.report_lines.specs.Replies.{ReplyAt, ReplyTo, Reply};
+ghost use Rattle.std.specs.Prelude.{IfOk, string_bytes};
+ghost use Rattle.report_lines.specs.Replies.{Reply};
 
-use crate::report::report;
-use byte_levels::polynomial_byte::PolynomialByte;
-use byte_levels::tower::TowerByte;
-use doubling::doubling::Doubling;
-use explain_input::input::{Input, read_input};
-use level::level::Level;
-use level_name::{LevelName, level_named};
-use problem::errors::{input_error, problem_error};
-use problem::reading::read_problem;
+use crate::report::Explanation;
+use replies::reply::reply;
 use std::alloc::{AllocError, Global};
-
-// The reply to an input at a level.
-fn explain_at<L: Level>(heap: Global, input: &Input) -> Result<String, AllocError>
-    ensures { IfOk result (λ s. ReplyAt L.arithmetic (parts_of input.now) (string_bytes s)) }
-{
-    match read_problem::<L>(heap, input) {
-        Ok(problem) => report(heap, &problem),
-        Err(fault) => problem_error(heap, fault),
-    }
-}
-
-// The reply to an input at the level that its letter names.
-fn explain_input(heap: Global, input: &Input) -> Result<String, AllocError>
-    requires { level_letter input.now.letter ≡ true }
-    ensures { IfOk result (λ s. ReplyTo (parts_of input.now) (string_bytes s)) }
-{
-    let Some(name) = level_named(input.letter) else {
-        unreachable()
-    };
-    match name {
-        LevelName::TowerByte => explain_at::<TowerByte>(heap, input),
-        LevelName::Tower16 => explain_at::<Doubling<TowerByte>>(heap, input),
-        LevelName::Tower32 => explain_at::<Doubling<Doubling<TowerByte>>>(heap, input),
-        LevelName::Tower64 => explain_at::<Doubling<Doubling<Doubling<TowerByte>>>>(heap, input),
-        LevelName::PolynomialByte => explain_at::<PolynomialByte>(heap, input),
-    }
-}
 
 // The reply to an input: its report, or one line that begins `error: ` where it cannot be read.
 pub fn explain(heap: Global, text: &[u8]) -> Result<String, AllocError>
     ensures { IfOk result (λ s. Reply text.now (string_bytes s)) }
 {
-    match read_input(heap, text) {
-        Ok(input) => explain_input(heap, &input),
-        Err(fault) => input_error(heap, fault),
+    reply::<Explanation>(heap, text)
+}
+
+#[cfg(test)]
+mod tests {
+    use super::*;
+    use std::test::Fail;
+
+    #[test]
+    fn replies(rt: HostRuntime) -> Result<(), Fail> {
+        let heap = rt.alloc();
+        let report = explain(heap, b"level b\nbits 10\npoint 02 00 00\n")?;
+        assert_eq!(rt;
+            report.as_str(),
+            "packed 10\nincoming 02\nsuccessor none\nprefix 0\naddress 0\n"
+        );
+        let unread = explain(heap, b"level b\nbits 10\n")?;
+        assert_eq!(rt; unread.as_str(), "error: there is no line of point\n");
+        Ok(())
     }
 }

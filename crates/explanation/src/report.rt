@@ -7,6 +7,7 @@ use crate::step_lines::{batch_lines, closing_lines, packed_lines};
 use crate::steps::{batch, open};
 use level::level::Level;
 use problem::problem::Problem;
+use replies::reporter::Reporter;
 use report_lines::finish::finish;
 use report_lines::opening::opening_lines;
 use report_lines::stop::Stop;
@@ -15,7 +16,6 @@ use std::alloc::{AllocError, Global};
 
 // Adds the lines of the batching at a point and of the closing points, until a step is refused.
 fn batched_lines<'a, L: Level>(
-    heap: Global,
     out: &mut String,
     problem: &'a Problem<L>,
     batching: &'a [L],
@@ -28,13 +28,12 @@ fn batched_lines<'a, L: Level>(
     let bits = problem.bits.as_slice();
     let point = problem.point.as_slice();
     let batched = batch(bits, point, problem.view, batching, problem.challenge)?;
-    batch_lines(heap, out, &batched)?;
-    closing_lines(heap, out, &batched, problem.closings.as_slice())
+    batch_lines(out, &batched)?;
+    closing_lines(out, &batched, problem.closings.as_slice())
 }
 
 // Adds the lines of a problem past its packed elements, until a step is refused.
 fn opened_lines<L: Level>(
-    heap: Global,
     out: &mut String,
     problem: &Problem<L>,
     variables: usize,
@@ -47,22 +46,24 @@ fn opened_lines<L: Level>(
     let bits = problem.bits.as_slice();
     let point = problem.point.as_slice();
     let opening = open(bits, variables, point, problem.view)?;
-    opening_lines(heap, out, &opening)?;
+    opening_lines(out, &opening)?;
     match &problem.batching {
-        Some(batching) => batched_lines(heap, out, problem, batching.as_slice()),
+        Some(batching) => batched_lines(out, problem, batching.as_slice()),
         None => Ok(()),
     }
 }
 
-// Adds the lines of a problem, until a step is refused.
-fn problem_lines<L: Level>(heap: Global, out: &mut String, problem: &Problem<L>) -> Result<(), Stop>
+// Adds the lines of a problem, until a step is refused. The steps have the order of those over lent memory, and are written for each of the
+// two ways: tables pass from step to step there and none do here, so that one function would need a trait with a type for what each step
+// passes on.
+fn problem_lines<L: Level>(out: &mut String, problem: &Problem<L>) -> Result<(), Stop>
     requires { length problem.now.bits.items ≤ 2 ^ 24 }
     ensures { Reported result (string_bytes out.new) (string_bytes out.old ++ report_text L.arithmetic (task_of L.means problem.now)) }
 {
     let bits = problem.bits.as_slice();
     let variables = packed_variables::<L>(bits)?;
-    packed_lines::<L>(heap, out, bits, 1 << variables)?;
-    opened_lines(heap, out, problem, variables)
+    packed_lines::<L>(out, bits, 1 << variables)?;
+    opened_lines(out, problem, variables)
 }
 
 // The report of a problem: its lines, and a last one where a step is refused.
@@ -71,6 +72,15 @@ pub fn report<L: Level>(heap: Global, problem: &Problem<L>) -> Result<String, Al
     ensures { IfOk result (λ s. string_bytes s ≡ report_text L.arithmetic (task_of L.means problem.now)) }
 {
     let mut out = String::new(heap);
-    let lines = problem_lines(heap, &mut out, problem);
-    finish(heap, out, lines)
+    let lines = problem_lines(&mut out, problem);
+    finish(out, lines)
+}
+
+// Reports whose values are computed plainly, each by its definition.
+pub struct Explanation;
+
+impl Reporter for Explanation {
+    fn report<L: Level>(heap: Global, problem: &Problem<L>) -> Result<String, AllocError> {
+        report(heap, problem)
+    }
 }

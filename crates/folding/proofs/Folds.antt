@@ -1,8 +1,8 @@
 -- Tensors added one after the other, and parts of a lent table.
-use Rattle.std.proofs.Common.{◌≡◌, ℕ, ◌+◌, ◌-◌, ◌*◌, ◌/◌, ◌%◌, ◌<◌, ◌≤◌, List, map, length, get_or, take, drop, sym, ap, ◌∙◌, ap₂, mul-le-mul_right, suc-mul, div-add-mod', div-mul-le_self, add-one, arith, length-drop}
+use Rattle.std.proofs.Common.{◌≡◌, ℕ, ◌+◌, ◌-◌, ◌*◌, ◌/◌, ◌%◌, ◌<◌, ◌≤◌, List, length, get_or, take, drop, sym, ap, ◌∙◌, ap₂, mul-le-mul_right, suc-mul, div-add-mod', div-mul-le_self, add-one, arith, length-drop}
 use mathlib.Core.Path.{fun_ext}
-use Rattle.std.proofs.lemmas.List.{take-map, drop-map, get_or-take, get_or-drop, length-take-le}
-use Rattle.level.specs.Element.{Element, plus, zeros}
+use Rattle.std.proofs.lemmas.List.{length-take-le}
+use Rattle.level.specs.Element.{Element, plus}
 use Rattle.level.proofs.Elements.{plus_assoc, plus_zeros, zeros_plus}
 use Rattle.multilinear.specs.Sums.{sum}
 use Rattle.multilinear.specs.Lent.{lent}
@@ -10,6 +10,7 @@ use Rattle.level.specs.Laws.{Arithmetic}
 use Rattle.multilinear.proofs.Lent.{lent_read}
 use Rattle.multilinear.proofs.Sums.{sum_same}
 use Rattle.tensor_algebra.specs.Tensor.{Tensor, nothing, exterior, add, scale_columns}
+use Rattle.tensor_rows.proofs.Places.{of_part}
 use Rattle.folding.specs.Folds.{block, with_all}
 
 module _ {k : ℕ} (t : Tensor k) (g : ℕ → Tensor k) where
@@ -41,12 +42,6 @@ length_part xs b n len h whole =
     length-take-le len (drop (b * len) xs) room
 
 module _ {X : Type 0} {k : ℕ} (means : X → Element k) where
-  -- a part of a lent table
-  pub lent_part : (xs : List X) (s n j : ℕ) → j < n → lent means (take n (drop s xs)) j ≡ lent means xs (s + j)
-  lent_part xs s n j h =
-      ap (λ ys. get_or ys j (zeros k)) (sym (take-map means n (drop s xs))) ∙ get_or-take n (map means (drop s xs)) j (zeros k) h
-      ∙ ap (λ ys. get_or ys j (zeros k)) (sym (drop-map means s xs)) ∙ get_or-drop s (map means xs) j (zeros k)
-
   -- one more block
   pub block_more : (A : Arithmetic k) (t : Tensor k) (outers lefts values part : List X) (n b len : ℕ) (weight : X) (s r : Tensor k)
       → len ≡ n → length lefts ≡ n → b < length outers → weight ≡ get_or outers b weight → part ≡ take len (drop (b * len) values)
@@ -59,7 +54,7 @@ module _ {X : Type 0} {k : ℕ} (means : X → Element k) where
       (made ∙ ap₂ (λ w x. add s (scale_columns A w x)) (lent_read means outers b weight within read)
       (fun_ext (λ u. ap (λ c. sum c (λ j. exterior (lent means lefts j) (lent means part j) u)) shared
       ∙ sum_same n _ _ (λ j h. ap (λ x. exterior (lent means lefts j) x u)
-      (ap (λ ys. lent means ys j) cut ∙ lent_part values (b * len) len j (omega arith) ∙ ap (λ c. lent means values (b * c + j)) size))))) e
+      (ap (λ ys. lent means ys j) cut ∙ of_part means (b * len) len values j (omega arith) ∙ ap (λ c. lent means values (b * c + j)) size))))) e
 
 -- the last entry of a column lies in a table of whole columns of w entries
 pub column_within : (c w l : ℕ) → 0 < w → c < l / w → c * w + (w - 1) < l

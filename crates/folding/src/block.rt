@@ -6,25 +6,18 @@ ghost use Rattle.tensor_algebra.specs.Tensor.{exterior, add, scale_columns};
 ghost use Rattle.products.specs.Buckets.{bytes};
 ghost use Rattle.folding.specs.Folds.{block, with_all};
 
-use equality::factored::FactoredEquality;
+use crate::slot_table::SlotTable;
+use coordinates::{whole_bytes, width};
 use level::level::Level;
 use products::factors::LeftFactors;
 use tensor_rows::columns::add_scaled_columns;
 
-// How many buckets the sum of a block takes: 256 for each byte of an element.
-fn bucket_count<L: Level>() -> usize
-    requires { L.Level.log ≤ 7 }
-    ensures { result ≡ 256 * bytes L.Level.log }
-{
-    256 * ((1 << L::log_width()) / 8)
-}
-
-// How many elements of scratch a fold takes: the buckets and the rows of one block's sum.
+// How many elements of scratch a fold takes: 256 buckets for each byte of an element, and the rows of one block's sum.
 pub fn scratch_len<L: Level>() -> usize
     requires { L.Level.log ≤ 7 }
     ensures { result ≡ 256 * bytes L.Level.log + width L.Level.log }
 {
-    bucket_count::<L>() + (1 << L::log_width())
+    256 * whole_bytes::<L>() + width::<L>()
 }
 
 // Adds the sum of left[j] ⊗ right[j], its columns scaled by a weight.
@@ -42,7 +35,7 @@ fn add_block<L: Level>(
     requires scratch { length scratch.old ≡ 256 * bytes L.Level.log + width L.Level.log }
     ensures { lent L.means rows.new ≡ add (lent L.means rows.old) (scale_columns L.arithmetic (L.means weight) (λ u. sum (length left.now.left.now) (λ j. exterior (lent L.means left.now.left.now j) (lent L.means right.now j) u))) }
 {
-    let (buckets, sum) = scratch.split_at_mut(bucket_count::<L>());
+    let (buckets, sum) = scratch.split_at_mut(256 * whole_bytes::<L>());
     left.sum(right, buckets, sum);
     add_scaled_columns(rows, sum, weight);
 }
@@ -55,25 +48,21 @@ fn block_at<L: Level>(values: &[L], b: usize, len: usize) -> &[L]
     &values[b * len..b * len + len]
 }
 
-// Adds for every block the sum of its elements against the left factors, its columns scaled by the block's outer weight.
-pub(crate) fn add_blocks<L: Level>(
-    rows: &mut [L],
-    values: &[L],
-    equality: &FactoredEquality<'_, L>,
-    left: &LeftFactors<'_, L>,
-    scratch: &mut [L],
-)
-    requires wide { 3 ≤ L.Level.log }
-    requires narrow { L.Level.log ≤ 7 }
-    requires values { length values.now ≡ length equality.now.outer.now * length equality.now.inner.now }
-    requires left { length left.now.left.now ≡ length equality.now.inner.now }
-    requires rows { length rows.old ≡ width L.Level.log }
-    requires scratch { length scratch.old ≡ 256 * bytes L.Level.log + width L.Level.log }
-    ensures { lent L.means rows.new ≡ with_all (lent L.means rows.old) (λ b. scale_columns L.arithmetic (lent L.means equality.now.outer.now b) (block (length equality.now.inner.now) (lent L.means left.now.left.now) (lent L.means values.now) b)) (length equality.now.outer.now) }
-{
-    let len = equality.block_len();
-    let outer = equality.outer;
-    for b in 0..outer.len() {
-        add_block(rows, left, block_at(values, b, len), outer[b], scratch);
+impl<'a, L: Level> SlotTable<'a, L> {
+    // Adds for every block the sum of its elements against the left factors, its columns scaled by the block's outer weight. The blocks
+    // go by their index, since nothing says that they are not empty, as `chunks_exact` asks.
+    pub(crate) fn add_blocks(&self, rows: &mut [L], left: &LeftFactors<'_, L>, scratch: &mut [L])
+        requires wide { 3 ≤ L.Level.log }
+        requires narrow { L.Level.log ≤ 7 }
+        requires left { length left.now.left.now ≡ length self.now.equality.inner.now }
+        requires rows { length rows.old ≡ width L.Level.log }
+        requires scratch { length scratch.old ≡ 256 * bytes L.Level.log + width L.Level.log }
+        ensures { lent L.means rows.new ≡ with_all (lent L.means rows.old) (λ b. scale_columns L.arithmetic (lent L.means self.now.equality.outer.now b) (block (length self.now.equality.inner.now) (lent L.means left.now.left.now) (lent L.means self.now.values.now) b)) (length self.now.equality.outer.now) }
+    {
+        let len = self.equality.block_len();
+        let outer = self.equality.outer;
+        for (b, weight) in outer.iter().enumerate() {
+            add_block(rows, left, block_at(self.values, b, len), *weight, scratch);
+        }
     }
 }

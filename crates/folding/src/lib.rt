@@ -6,4 +6,5 @@ pub mod block;
 pub mod carry;
 pub mod last;
 pub mod opening;
+pub mod slot_table;
 pub mod tensor;

@@ -8,7 +8,7 @@ use level::level::Level;
 pub fn first(byte: u8) -> [u8; 16]
     ensures { result ≡ byte ∷ replicate 15 0 }
 {
-    [byte, 0, 0, 0, 0, 0, 0, 0, 0, 0, 0, 0, 0, 0, 0, 0]
+    u128::from(byte).to_le_bytes()
 }
 
 // The product of the elements that two bytes make.

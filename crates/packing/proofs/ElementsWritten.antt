@@ -1,8 +1,8 @@
 -- Packed elements written one after another, and the levels at which bytes are packed.
-use Rattle.std.proofs.Common.{◌≡◌, ℕ, ◌+◌, ◌*◌, ◌/◌, ◌^◌, ◌<◌, ◌≤◌, Bool, true, false, cond, ltb, List, length, drop, set, Some, None, Option, sym, refl, ap, ◌∙◌, ⊎_elim, mul-le-mul_right, arith, below_more}
+use Rattle.std.proofs.Common.{◌++◌, take, inl, inr, add-mul, one-mul, length-append, length-drop, drop_at, ◌≡◌, ℕ, ◌+◌, ◌*◌, ◌/◌, ◌^◌, ◌<◌, ◌≤◌, Bool, true, false, cond, ltb, List, length, drop, set, Some, None, Option, sym, refl, ap, ◌∙◌, ⊎_elim, arith, below_more}
 use lib.Pow.{pow-lt}
-use Rattle.std.proofs.lemmas.Nat.{div-add-mod'}
-use Rattle.std.proofs.lemmas.List.{drop-drop, drop-set-lt}
+use Rattle.std.proofs.Math.Nat.{le-div_iff_mul-le}
+use Rattle.std.proofs.lemmas.List.{drop-drop, drop-set-lt, take_at}
 use Rattle.std.proofs.lemmas.Bool.{ltb-false, cases_lt}
 use Rattle.level.specs.Element.{Element}
 use Rattle.multilinear.specs.Cells.{cell, packed}
@@ -10,11 +10,27 @@ use Rattle.multilinear.proofs.Lent.{lent_written, lent_kept}
 use Rattle.refusals.specs.Steps.{packing}
 use Rattle.packing.specs.Packing.{Packed}
 
--- an element of which there are so many lies within the bytes
-pub element_within : (n len w : ℕ) → w < n / len → (w + 1) * len ≤ n
-element_within n len w h =
-    let l : w + 1 ≤ n / len = omega arith in
-    omega (arith, div-add-mod' n len, mul-le-mul_right len l)
+-- chunk w of some bytes, before what is left
+module _ (bytes chunk rest : List ℕ) (w len : ℕ) (parts : drop (w * len) bytes ≡ chunk ++ rest) (size : length chunk ≡ len) where
+  pub chunk_is : chunk ≡ take len (drop (w * len) bytes)
+  chunk_is = sym (ap (take len) parts ∙ take_at chunk rest len size)
+
+  pub rest_is : rest ≡ drop ((w + 1) * len) bytes
+  rest_is =
+      let place : w * len + len ≡ (w + 1) * len = sym (add-mul w 1 len ∙ ap (λ n. w * len + n) (one-mul len)) in
+      sym (ap (λ n. drop n bytes) (sym place) ∙ sym (drop-drop len (w * len) bytes) ∙ ap (drop len) parts ∙ drop_at chunk rest len size)
+
+  pub chunk_within : 0 < len → (w + 1) * len ≤ length bytes
+  chunk_within pos = omega (arith, ap length parts, length-append chunk rest, length-drop (w * len) bytes, add-mul w 1 len)
+
+  pub chunk_counted : 0 < len → w < length bytes / len
+  chunk_counted pos = let fits : w + 1 ≤ length bytes / len = (le-div_iff_mul-le pos).1 (chunk_within pos) in omega arith
+
+-- no chunk is left
+pub chunks_counted : (bytes : List ℕ) (w len : ℕ) → 0 < len → w ≤ length bytes / len → length (drop (w * len) bytes) < len → w ≡ length bytes / len
+chunks_counted bytes w len pos few h =
+    ⊎_elim (λ e. e) (λ l. absurd (omega (arith, (le-div_iff_mul-le {k = len} {x = w + 1} {y = length bytes} pos).0 (omega arith), length-drop (w * len) bytes, add-mul w 1 len)))
+    (⊎_elim (λ l. inr l) (λ g. inl (omega arith)) (cases_lt w (length bytes / len)))
 
 -- one element more
 pub packed_more : {X : Type 0} {k : ℕ} (means : X → Element k) (bytes : List ℕ) (w : ℕ) (before xs : List X) (x : X) → w < length xs

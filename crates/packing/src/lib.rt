@@ -2,42 +2,25 @@
 // At a level of whole bytes this moves no bit: an element's coordinates are the bits of its bytes.
 #![tactic(auto)]
 
-ghost use Rattle.std.specs.Prelude.{◌≡◌, ◌+◌, ◌*◌, ◌/◌, ◌≤◌, ◌++◌, length, take, drop, replicate, MatchResult};
+ghost use Rattle.std.specs.Prelude.{◌≡◌, ◌+◌, ◌*◌, ◌/◌, ◌≤◌, ◌++◌, length, drop, replicate, MatchResult};
 ghost use Rattle.multilinear.specs.Cells.{cell, packed};
 ghost use Rattle.packing.specs.Packing.{Packed};
 ghost use Rattle.refusals.specs.Refusals.{packing_refusal, refused};
 ghost use Rattle.refusals.specs.Steps.{told, stride, packing};
 
+use coordinates::num_bytes;
 use level::level::Level;
 use refusals::faults::BitPackingError;
 use refusals::steps::check_packing;
 
-// How many bytes an element takes.
-fn element_len<L: Level>() -> usize
-    requires { L.Level.log ≤ 7 }
-    ensures { result ≡ stride L.Level.log }
+// Some bytes, then zeroes up to sixteen.
+fn padded(bytes: &[u8]) -> [u8; 16]
+    requires { length bytes.now ≤ 16 }
+    ensures { result ≡ bytes.now ++ drop (length bytes.now) (replicate 16 0) }
 {
-    ((1 << L::log_width()) / 8).max(1)
-}
-
-// Some bytes of a table, then zeroes up to sixteen.
-fn bytes_at(bits: &[u8], start: usize, len: usize) -> [u8; 16]
-    requires { (len ≤ 16) × (start + len ≤ length bits.now) }
-    ensures { result ≡ take len (drop start bits.now) ++ drop len (replicate 16 0) }
-{
-    let mut bytes = [0; 16];
-    bytes[..len].copy_from_slice(&bits[start..start + len]);
-    bytes
-}
-
-// Packed element w of a table: the element that its bytes make.
-fn element_at<L: Level>(bits: &[u8], w: usize) -> L
-    requires level { (3 ≤ L.Level.log) × (L.Level.log ≤ 7) }
-    requires within { (w + 1) * stride L.Level.log ≤ length bits.now }
-    ensures { L.means result ≡ packed L.Level.log (cell bits.now) w }
-{
-    let len = element_len::<L>();
-    L::from_bytes(bytes_at(bits, w * len, len))
+    let mut sixteen = [0; 16];
+    sixteen[..bytes.len()].copy_from_slice(bytes);
+    sixteen
 }
 
 // Packs a table into the first of the lent elements, and says into how many.
@@ -47,11 +30,13 @@ pub fn pack_elements<L: Level>(bits: &[u8], elements: &mut [L]) -> usize
     ensures count { result ≡ length bits.now / stride L.Level.log }
     ensures packed { Packed L.means bits.now result elements.old elements.new }
 {
-    let count = bits.len() / element_len::<L>();
-    for w in 0..count {
-        elements[w] = element_at(bits, w);
+    let len = num_bytes::<L>();
+
+    // An index into the elements, since of what is written through a zip with `iter_mut` a proof knows only the length.
+    for (w, bytes) in bits.chunks_exact(len).enumerate() {
+        elements[w] = L::from_bytes(padded(bytes));
     }
-    count
+    bits.len() / len
 }
 
 // Packs a table, where it can be packed: the refusal is that of the first test that is not passed, and then the lent elements are

@@ -1,10 +1,11 @@
 -- An entry of an equality table, coordinate by coordinate from the last to the first.
-use Rattle.std.proofs.Common.{◌≡◌, ℕ, zero, suc, ◌+◌, ◌-◌, ◌/◌, ◌%◌, ◌^◌, ◌<◌, ◌≤◌, true, false, eqb, ◌∷◌, length, get_or, drop, sym, refl, ap, ◌∙◌, ap₂, arith, length-drop}
+use Rattle.std.proofs.Common.{◌≡◌, ℕ, zero, suc, ◌/◌, ◌%◌, ◌^◌, ◌<◌, true, false, eqb, List, [], ◌∷◌, ◌++◌, map, length, sym, refl, ap, ◌∙◌, ap₂, append_assoc, append-nil, add-one, arith}
+use lib.ListN.{length-map}
+use Rattle.std.specs.List.{push}
 use Rattle.std.proofs.lemmas.Nat.{shr-shr}
-use Rattle.std.proofs.lemmas.List.{drop_all, drop_more}
-use Rattle.level.specs.Element.{Element, plus, zeros}
+use Rattle.level.specs.Element.{Element, plus}
 use Rattle.level.specs.Laws.{Arithmetic}
-use Rattle.multilinear.specs.Equality.{Point, factor, entry, equality}
+use Rattle.multilinear.specs.Equality.{factor, entry, equality}
 
 module _ {k : ℕ} (A : Arithmetic k) where
   -- the factor of a coordinate, by the test of the bit
@@ -14,32 +15,29 @@ module _ {k : ℕ} (A : Arithmetic k) where
   factor_by_test f x (suc zero) h one none = one refl
   factor_by_test f x (suc (suc b)) h one none = absurd (omega (arith, h))
 
-  -- before the last coordinate
-  pub entry_begins : (p : Point k) (n : ℕ) (x : Element k) (index : ℕ) → length p ≤ n → x ≡ A.unit → x ≡ equality A (drop n p) index
-  unfolding entry
-  entry_begins p n x index h e = e ∙ ap (λ q. equality A q index) (sym (drop_all n p h))
+  -- The coordinates of a point that are left, the product of the factors of those that are done, and what is left of the index.
+  pub record Factored {X : Type 0} (means : X → Element k) (point left : List X) (index : ℕ) (product : Element k) (rest : ℕ) : Type 0 where
+    pub done : List X
+    pub parts : point ≡ left ++ done
+    pub product_is : product ≡ equality A (map means done) index
+    pub rest_is : rest ≡ index / 2 ^ length done
 
-  -- one coordinate more
-  pub entry_more : (p : Point k) (n i index rest : ℕ) (x f y z : Element k) → length p ≡ n → 0 < i → i ≤ n
-      → x ≡ get_or p (i - 1) (zeros k)
-      → (eqb (rest % 2) 1 ≡ true → f ≡ x) → (eqb (rest % 2) 1 ≡ false → f ≡ plus A.unit x)
-      → y ≡ equality A (drop i p) index
-      → rest ≡ index / 2 ^ (n - i)
-      → z ≡ A.times f y → z ≡ equality A (drop (i - 1) p) index
-  unfolding entry
-  entry_more p n i index rest x f y z len pos h read one none inv place made =
-      let e : i - 1 + 1 ≡ i = omega arith in
-      let front : drop (i - 1) p ≡ x ∷ drop i p = drop_more p (i - 1) (zeros k) (omega arith) ∙ ap₂ (λ a j. a ∷ drop j p) (sym read) e in
-      let bit : rest % 2 ≡ index / 2 ^ length (drop i p) % 2 = ap (λ n. n % 2) (place ∙ ap (λ l. index / 2 ^ l) (sym (length-drop i p ∙ ap (λ m. m - i) len))) in
-      made ∙ ap₂ A.times (factor_by_test f x (rest % 2) (omega arith) one none ∙ ap (factor A x) bit) inv
-      ∙ ap (λ q. equality A q index) (sym front)
+  module _ {X : Type 0} (means : X → Element k) (point : List X) (index : ℕ) where
+    -- before the last coordinate
+    pub factored_none : (left : List X) (y : Element k) → left ≡ point → y ≡ A.unit → Factored means point left index y index
+    unfolding entry
+    factored_none left y all e = record { done = []; parts = sym (append-nil left ∙ all); product_is = e; rest_is = omega arith }
 
-  -- no coordinate left
-  pub entry_ends : (p : Point k) (i index : ℕ) (z : Element k) → i ≤ 0 → z ≡ equality A (drop i p) index → z ≡ equality A p index
-  entry_ends p i index z h e = let n : i ≡ 0 = omega arith in e ∙ ap (λ j. equality A (drop j p) index) n
-
--- the part of the index that is left
-pub rest_more : (n i index rest : ℕ) → 0 < i → i ≤ n → rest ≡ index / 2 ^ (n - i) → rest / 2 ≡ index / 2 ^ (n - (i - 1))
-rest_more n i index rest pos h e =
-    let s : n - i + 1 ≡ n - (i - 1) = omega arith in
-    ap (λ m. m / 2) e ∙ shr-shr index (n - i) 1 ∙ ap (λ m. index / 2 ^ m) s
+    -- one coordinate more
+    pub factored_more : (left next : List X) (x : X) (f y z : Element k) (rest : ℕ) → Factored means point left index y rest → left ≡ push next x
+        → (eqb (rest % 2) 1 ≡ true → f ≡ means x) → (eqb (rest % 2) 1 ≡ false → f ≡ plus A.unit (means x)) → z ≡ A.times f y
+        → Factored means point next index z (rest / 2)
+    unfolding entry
+    factored_more left next x f y z rest s last one none made =
+        let bit : rest % 2 ≡ index / 2 ^ length (map means s.done) % 2 = ap (λ n. n % 2) (s.rest_is ∙ ap (λ l. index / 2 ^ l) (sym (length-map s.done means))) in
+        record {
+          done = x ∷ s.done;
+          parts = s.parts ∙ ap (λ l. l ++ s.done) last ∙ append_assoc next (x ∷ []) s.done;
+          product_is = made ∙ ap₂ A.times (factor_by_test f (means x) (rest % 2) (omega arith) one none ∙ ap (factor A (means x)) bit) s.product_is;
+          rest_is = ap (λ n. n / 2) s.rest_is ∙ shr-shr index (length s.done) 1 ∙ ap (λ n. index / 2 ^ n) (add-one (length s.done));
+        }

@@ -1,5 +1,6 @@
 -- The leading zeros and ones of a point, coordinate by coordinate from the first.
-use Rattle.std.proofs.Common.{◌≡◌, ℕ, zero, suc, ◌+◌, ◌-◌, ◌*◌, ◌^◌, ◌<◌, ◌≤◌, false, cond, eqb, List, map, length, get_or, take, drop, Some, None, sym, refl, ap, ◌∙◌, ap₂, le_trans, lt_of_lt_of_le, mul-le-mul_right, mul_assoc, mul_comm, add-mul, pow-suc, add-one, arith, pow_mono, pow-add}
+use Rattle.std.proofs.Common.{◌≡◌, ℕ, min, zero, suc, ◌+◌, ◌-◌, ◌*◌, ◌^◌, ◌<◌, ◌≤◌, false, cond, eqb, List, map, length, get_or, take, drop, Some, None, Option, ltb, sym, refl, ap, ◌∙◌, ap₂, le_trans, lt_of_lt_of_le, mul-le-mul_right, mul_assoc, mul_comm, add-mul, pow-suc, add-one, arith, pow_mono, pow-add}
+use Rattle.std.specs.Option.{MatchOption}
 use lib.ListN.{length-map}
 use Rattle.std.proofs.lemmas.Nat.{shl_below}
 use Rattle.std.proofs.lemmas.List.{drop_more, drop_all, drop-take, take-take, take-map, drop-map}
@@ -9,7 +10,7 @@ use Rattle.level.specs.Laws.{Arithmetic, Laws}
 use Rattle.level.proofs.Elements.{same, zeros_is}
 use Rattle.multilinear.specs.Equality.{Point}
 use Rattle.ring_switch.proofs.SlotTensors.{slot}
-use Rattle.ring_switch.specs.Opening.{View, Prefix, high, limit, selects, lead, run, prefix, rest, slot_start}
+use Rattle.ring_switch.specs.Opening.{View, Prefix, high, kept, limit, selects, lead, run, prefix, rest, slot_start}
 
 pub limit_within : (k n : ℕ) (view : View) → limit k n view ≤ n - k
 unfolding limit
@@ -43,15 +44,6 @@ module _ {k : ℕ} (A : Arithmetic k) where
     pub counted : (run A p).count ≡ c + (run A (drop c p)).count
     pub spelt : (run A p).address ≡ a * 2 ^ (run A (drop c p)).count + (run A (drop c p)).address
     pub bounded : a < 2 ^ c
-
-  pub so_far_none : (p : Point k) → SoFar p 0 0
-  so_far_none p = record { counted = omega arith; spelt = omega arith; bounded = omega arith }
-
-  -- an address of fewer than 64 bits has room for one more
-  pub extended_fits : (p : Point k) (c a b : ℕ) → c < 64 → b < 2 → SoFar p c a → 2 * a + b < 2 ^ 64
-  extended_fits p c a b h bit s =
-      let room : 2 ^ suc c ≤ 2 ^ 64 = pow_mono h in
-      omega (arith, s.bounded, pow-suc 2 c)
 
   -- what a coordinate puts in front
   lead_count : (b : ℕ) (r : Prefix) → b < 2 → (lead b r).count ≡ suc r.count
@@ -140,3 +132,15 @@ slot_cells {k} {A} laws p view s l h few e d =
     let room : m + k ≤ 64 = omega arith in
     let inside : s + 2 ^ l ≤ 2 ^ m = rw (e, d) (slot laws p view).within in
     le_trans (mul-le-mul_right (width k) inside) (rw (← pow-add 2 m k) (pow_mono room))
+
+-- the row variables that are kept, by whether a view names any
+pub kept_by_view : (k : ℕ) (view r : Option ℕ) → MatchOption view (r ≡ None) (λ q. r ≡ cond (ltb k q) (Some (q - k)) None) → r ≡ kept k view
+unfolding kept
+kept_by_view k None r e = e
+kept_by_view k (Some q) r e = e
+
+-- how many coordinates may select, by whether a view names row variables
+pub limit_by_view : (k n : ℕ) (view : Option ℕ) (r : ℕ) → MatchOption view (r ≡ n - k) (λ q. r ≡ min (n - k) (n - q)) → r ≡ limit k n view
+unfolding limit
+limit_by_view k n None r e = e
+limit_by_view k n (Some q) r e = e

@@ -2,8 +2,8 @@ ghost use Rattle.std.specs.Prelude.{◌≡◌, ◌+◌, ◌*◌, ◌/◌, ◌%�
 ghost use Rattle.level.specs.Element.{width};
 ghost use Rattle.multilinear.specs.Cells.{cell, packed, successor};
 
-use crate::columns::ends_column;
-use crate::coordinates::{width, with_coordinate};
+use columns::Columns;
+use coordinates::{from_coordinates, width, with_coordinate};
 use level::level::Level;
 
 // Bit `at` of a byte.
@@ -33,15 +33,16 @@ pub fn packed_element<L: Level>(bits: &[u8], w: usize) -> L
     let d = width::<L>();
     let mut coordinates = 0;
     for v in 0..d {
-        coordinates = with_coordinate(coordinates, v, cell(bits, w * d + v));
+        coordinates = with_coordinate(coordinates, v, u128::from(cell(bits, w * d + v)));
     }
-    L::from_bytes(coordinates.to_le_bytes())
+    from_coordinates(coordinates)
 }
 
 // The successor of cell c under a view that names q row variables: the next cell, or c itself at the last row of its column.
+#[tactic(auto, using(crate::proofs::Bits::next_fits, crate::proofs::Bits::successor_stays, crate::proofs::Bits::successor_steps))]
 pub fn successor_cell(q: usize, c: usize) -> usize
     requires { q < 64 }
     ensures { result ≡ successor q c }
 {
-    if ends_column(q, c) { c } else { c + 1 }
+    if Columns::new(q).ends(c) { c } else { c + 1 }
 }

@@ -4,10 +4,10 @@
 
 pub mod batching;
 pub mod cells;
-mod columns;
-mod coordinates;
 pub mod opening;
 pub mod points;
+pub mod slots;
 pub mod stepping;
 pub mod subsets;
+mod sums;
 pub mod values;

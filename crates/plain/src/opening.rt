@@ -2,6 +2,7 @@ ghost use Rattle.std.specs.Prelude.{◌≡◌, ◌+◌, ◌-◌, ◌*◌, ◌^�
 ghost use Rattle.level.specs.Element.{width};
 ghost use Rattle.ring_switch.specs.Opening.{kept, limit, selects, run, prefix, rest, slot_start};
 
+use crate::slots::{Prefix, Slot};
 use level::level::Level;
 
 // How far q is past k, where it is past k.
@@ -16,17 +17,8 @@ pub fn kept_row_variables<L: Level>(view: Option<usize>) -> Option<usize>
     requires { L.Level.log ≤ 7 }
     ensures { result ≡ kept L.Level.log view }
 {
-    match view {
-        Some(q) => past(q, usize::from(L::log_width())),
-        None => None,
-    }
-}
-
-// At most so many, and none of the last q of n.
-fn before_rows(most: usize, n: usize, q: usize) -> usize
-    ensures { result ≡ min most (n - q) }
-{
-    most.min(n.saturating_sub(q))
+    let k = usize::from(L::log_width());
+    view.and_then(|q| past(q, k))
 }
 
 // How many leading coordinates of a point of n may select a slot.
@@ -35,13 +27,11 @@ fn prefix_limit<L: Level>(n: usize, view: Option<usize>) -> usize
     ensures { result ≡ limit L.Level.log n view }
 {
     let high = n.saturating_sub(usize::from(L::log_width()));
-    match view {
-        Some(q) => before_rows(high, n, q),
-        None => high,
-    }
+    view.map_or(high, |q| high.min(n.saturating_sub(q)))
 }
 
 // The bit that a coordinate spells in a slot's address: 0 for zero, 1 for one, and none for any other element.
+#[tactic(auto, using(crate::proofs::Prefixes::selects_zero, crate::proofs::Prefixes::selects_one, crate::proofs::Prefixes::selects_other))]
 fn selector_bit<L: Level>(x: L) -> Option<usize>
     ensures { MatchOption result (selects L.arithmetic (L.means x) ≡ 2) (λ b. (b < 2) × (selects L.arithmetic (L.means x) ≡ b)) }
 {
@@ -54,40 +44,32 @@ fn selector_bit<L: Level>(x: L) -> Option<usize>
     }
 }
 
-// An address with one more bit at its end.
-fn extended(address: usize, bit: usize) -> usize
-    requires { 2 * address + bit < 2 ^ 64 }
-    ensures { result ≡ 2 * address + bit }
-{
-    address * 2 + bit
-}
-
-// The longest run of leading coordinates that are zero or one: how many there are, and the address that they spell, most
-// significant first.
-fn leading_run<L: Level>(point: &[L]) -> (usize, usize)
+// The longest run of leading coordinates that are zero or one.
+fn leading_run<L: Level>(point: &[L]) -> Prefix
     requires { length point.now ≤ 64 }
-    ensures count { result.0 ≡ (run L.arithmetic (map L.means point.now)).count }
-    ensures address { result.1 ≡ (run L.arithmetic (map L.means point.now)).address }
+    ensures count { result.count ≡ (run L.arithmetic (map L.means point.now)).count }
+    ensures address { result.address ≡ (run L.arithmetic (map L.means point.now)).address }
 {
-    let mut count = 0;
-    let mut address = 0;
+    let mut run = Prefix {
+        count: 0,
+        address: 0,
+    };
     for x in point {
         let Some(bit) = selector_bit(*x) else {
             break;
         };
-        address = extended(address, bit);
-        count += 1;
+        run = run.extended(bit);
     }
-    (count, address)
+    run
 }
 
-// How many leading coordinates select the slot of an opening, and its address.
-pub fn fixed_prefix<L: Level>(point: &[L], view: Option<usize>) -> (usize, usize)
+// The leading coordinates that select the slot of an opening.
+pub fn fixed_prefix<L: Level>(point: &[L], view: Option<usize>) -> Prefix
     requires { (L.Level.log ≤ 7) × (length point.now ≤ 64) }
-    ensures count { result.0 ≡ (prefix L.arithmetic (map L.means point.now) view).count }
-    ensures address { result.1 ≡ (prefix L.arithmetic (map L.means point.now) view).address }
-    ensures within { result.0 ≤ length point.now - L.Level.log }
-    ensures bounded { result.1 < 2 ^ result.0 }
+    ensures count { result.count ≡ (prefix L.arithmetic (map L.means point.now) view).count }
+    ensures address { result.address ≡ (prefix L.arithmetic (map L.means point.now) view).address }
+    ensures within { result.count ≤ length point.now - L.Level.log }
+    ensures bounded { result.address < 2 ^ result.count }
 {
     leading_run(&point[..prefix_limit::<L>(point.len(), view)])
 }
@@ -100,16 +82,19 @@ fn slot_begin(address: usize, l: usize) -> usize
     address << l
 }
 
-// The slot of an opening: its first packed element, and its coordinates, which are the kept ones after the prefix.
-pub fn slot<L: Level>(point: &[L], view: Option<usize>) -> (usize, &[L])
+// The slot of an opening: its coordinates are the kept ones after the prefix.
+pub fn slot<L: Level>(point: &[L], view: Option<usize>) -> Slot<'_, L>
     requires { (L.Level.log ≤ 7) × (length point.now < 64) }
-    ensures start { result.0 ≡ slot_start L.arithmetic (map L.means point.now) view }
-    ensures coordinates { map L.means result.1.now ≡ rest L.arithmetic (map L.means point.now) view }
-    ensures short { length result.1.now < 64 }
-    ensures cells { (result.0 + 2 ^ length result.1.now) * width L.Level.log ≤ 2 ^ 64 }
+    ensures start { result.start ≡ slot_start L.arithmetic (map L.means point.now) view }
+    ensures coordinates { map L.means result.coordinates.now ≡ rest L.arithmetic (map L.means point.now) view }
+    ensures short { length result.coordinates.now < 64 }
+    ensures cells { (result.start + 2 ^ length result.coordinates.now) * width L.Level.log ≤ 2 ^ 64 }
 {
-    let (count, address) = fixed_prefix(point, view);
+    let Prefix { count, address } = fixed_prefix(point, view);
     let high = point.len().saturating_sub(usize::from(L::log_width()));
     let coordinates = &point[count..high];
-    (slot_begin(address, coordinates.len()), coordinates)
+    Slot {
+        start: slot_begin(address, coordinates.len()),
+        coordinates,
+    }
 }

@@ -18,8 +18,8 @@ pub fn equality_entry<L: Level>(point: &[L], index: usize) -> L
 {
     let mut product = L::one();
     let mut rest = index;
-    for i in (0..point.len()).rev() {
-        product = coordinate_factor(point[i], rest % 2 == 1).mul(product);
+    for x in point.iter().rev() {
+        product = coordinate_factor(*x, rest % 2 == 1).mul(product);
         rest /= 2;
     }
     product

@@ -6,21 +6,15 @@ ghost use Rattle.ring_switch.specs.Claims.{incoming, successor_claim};
 ghost use Rattle.ring_switch.specs.ClaimLaws.{opened, opened_carry, opened_last};
 
 use crate::cells::{cell, successor_cell};
-use crate::points::equality_entry;
+use crate::sums::value_at;
 use level::level::Level;
 
 // A bit standing for zero or one.
+#[tactic(auto, using(crate::proofs::Bits::standing_clear, crate::proofs::Bits::standing_set))]
 fn standing<L: Level>(bit: u8) -> L
     ensures { L.means result ≡ standing L.arithmetic bit }
 {
     if bit == 0 { L::zero() } else { L::one() }
-}
-
-// Cell c, standing for zero or one, times entry c of the equality table of the point.
-fn table_term<L: Level>(bits: &[u8], point: &[L], c: usize) -> L
-    ensures { L.means result ≡ L.arithmetic.times (standing L.arithmetic (cell bits.now c)) (equality L.arithmetic (map L.means point.now) c) }
-{
-    standing::<L>(cell(bits, c)).mul(equality_entry(point, c))
 }
 
 // The multilinear value at a point of a table of bits: the incoming claim of the table's tensor.
@@ -29,19 +23,7 @@ pub fn table_value<L: Level>(bits: &[u8], point: &[L]) -> L
     ensures value { L.means result ≡ multilinear L.arithmetic (λ c. standing L.arithmetic (cell bits.now c)) (map L.means point.now) }
     ensures incoming { L.Level.log ≤ length point.now → L.means result ≡ incoming L.arithmetic (low (map L.means point.now)) (opened L.arithmetic (map L.means point.now) (cell bits.now)) }
 {
-    let mut sum = L::zero();
-    for c in 0..1 << point.len() {
-        sum = sum.add(table_term(bits, point, c));
-    }
-    sum
-}
-
-// The successor of cell c, standing for zero or one, times entry c of the equality table of the point.
-fn successor_term<L: Level>(bits: &[u8], point: &[L], q: usize, c: usize) -> L
-    requires { q < 64 }
-    ensures { L.means result ≡ L.arithmetic.times (standing L.arithmetic (cell bits.now (successor q c))) (equality L.arithmetic (map L.means point.now) c) }
-{
-    standing::<L>(cell(bits, successor_cell(q, c))).mul(equality_entry(point, c))
+    value_at(point, |c| standing(cell(bits, c)))
 }
 
 // The multilinear value at a point of a table of bits one row on, under a view that names q row variables: the successor claim of
@@ -51,9 +33,5 @@ pub fn successor_value<L: Level>(bits: &[u8], point: &[L], q: usize) -> L
     ensures value { L.means result ≡ multilinear L.arithmetic (λ c. standing L.arithmetic (one_row_on q (cell bits.now) c)) (map L.means point.now) }
     ensures claim { L.Level.log ≤ length point.now → q ≤ length point.now → L.means result ≡ successor_claim L.arithmetic (low (map L.means point.now)) q (opened L.arithmetic (map L.means point.now) (cell bits.now)) (opened_carry L.arithmetic (map L.means point.now) q (cell bits.now)) (opened_last L.arithmetic (map L.means point.now) q (cell bits.now)) }
 {
-    let mut sum = L::zero();
-    for c in 0..1 << point.len() {
-        sum = sum.add(successor_term(bits, point, q, c));
-    }
-    sum
+    value_at(point, |c| standing(cell(bits, successor_cell(q, c))))
 }

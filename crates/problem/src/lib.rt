@@ -5,4 +5,3 @@
 pub mod errors;
 pub mod problem;
 pub mod reading;
-pub mod words;

@@ -1,24 +1,28 @@
-ghost use Rattle.std.specs.Prelude.{◌≡◌, ◌≤◌, [], ◌∷◌, map, length, MatchResult};
+ghost use Rattle.std.specs.Prelude.{◌≡◌, ◌≤◌, Some, [], ◌∷◌, map, length, MatchResult};
 ghost use Rattle.element_lists.specs.Bytes.{BytesOf};
 ghost use Rattle.element_lists.specs.Elements.{ElementsOf};
 ghost use Rattle.explain_input.specs.Inputs.{parts_of};
 ghost use Rattle.explain_input.specs.declared.key.Key.TheVariants as named;
 ghost use Rattle.problem.specs.Reading.{most_bytes, OptionalPoint, OptionalElement, EachPoint, unbatched, Asks, BadText, BadAmong, BadProblem};
 ghost use Rattle.problem.specs.Task.{task_of};
-ghost use Rattle.problem.specs.declared.reading.ProblemFault.TheVariants.{Memory};
+ghost use Rattle.problem.specs.declared.reading.ProblemFault.TheVariants.{Bits, Memory};
+ghost use Rattle.problem.specs.Messages.{problem_message};
 ghost use Rattle.std.specs.Option.{option_map, option_to_list};
 
 use crate::problem::Problem;
 use element_lists::bytes::{BytesFault, parse_hex_bytes};
+use element_lists::called::Called;
 use element_lists::elements::{ElementsFault, parse_elements};
 use element_text::element::byte_count;
 use explain_input::input::Input;
 use explain_input::key::Key;
 use level::level::Level;
 use std::alloc::{AllocFailed, Global};
+use std::error::Error;
+use std::fmt;
 
 // Why an input is not read at a level.
-#[derive(Clone, Copy)]
+#[derive(Clone, Copy, Debug, PartialEq, Eq)]
 pub enum ProblemFault {
     // There are closing points, but no batching point.
     NoBatching,
@@ -34,6 +38,38 @@ pub enum ProblemFault {
     Memory,
 }
 
+impl fmt::Display for ProblemFault {
+    ghost output = { λ fault. Some (problem_message fault) };
+
+    fn fmt<W: fmt::Write>(&self, f: &mut fmt::Formatter<W>) -> fmt::Result {
+        match *self {
+            ProblemFault::NoBatching => write!(f, "closing without batching"),
+            ProblemFault::Bits { fault } => Called {
+                word: "bits",
+                fault,
+            }
+            .fmt(f),
+            ProblemFault::TooLarge => write!(f, "bits are more than 2^20 packed elements"),
+            ProblemFault::Elements { key, fault } => {
+                let word = key.word();
+                Called { word, fault }.fmt(f)
+            }
+            ProblemFault::Challenge => write!(f, "challenge is not one element"),
+            ProblemFault::Memory => write!(f, "no memory for the closing points"),
+        }
+    }
+}
+
+impl Error for ProblemFault {}
+
+impl From<BytesFault> for ProblemFault {
+    ghost from_gives = { λ fault r. r ≡ Bits fault };
+
+    fn from(fault: BytesFault) -> ProblemFault {
+        ProblemFault::Bits { fault }
+    }
+}
+
 impl<T: Drop> From<AllocFailed<T>> for ProblemFault {
     ghost from_gives = { λ e r. r ≡ Memory };
 
@@ -46,10 +82,7 @@ impl<T: Drop> From<AllocFailed<T>> for ProblemFault {
 fn read_bits<L: Level>(heap: Global, text: &[u8]) -> Result<Vec<u8>, ProblemFault>
     ensures { MatchResult result (λ v. BytesOf text.now v.items × (length v.items ≤ most_bytes L.Level.log)) (BadText L.Level.log named.Bits text.now) }
 {
-    let bits = match parse_hex_bytes(heap, text) {
-        Ok(bits) => bits,
-        Err(fault) => return Err(ProblemFault::Bits { fault }),
-    };
+    let bits = parse_hex_bytes(heap, text)?;
     if bits.len() > (1 << 20) * byte_count::<L>() {
         return Err(ProblemFault::TooLarge);
     }
@@ -60,10 +93,7 @@ fn read_bits<L: Level>(heap: Global, text: &[u8]) -> Result<Vec<u8>, ProblemFaul
 fn read_elements<L: Level>(heap: Global, key: Key, text: &[u8]) -> Result<Vec<L>, ProblemFault>
     ensures { MatchResult result (λ v. ElementsOf text.now (map L.means v.items)) (BadText L.Level.log key text.now) }
 {
-    match parse_elements(heap, text) {
-        Ok(elements) => Ok(elements),
-        Err(fault) => Err(ProblemFault::Elements { key, fault }),
-    }
+    parse_elements(heap, text).map_err(|fault| ProblemFault::Elements { key, fault })
 }
 
 // The batching point, where there is one.

@@ -10,6 +10,7 @@ fn main(rt: HostRuntime) -> io::Result<()> {
     let heap = rt.alloc();
     let mut input = BufReader::new(heap, rt.stdin())?;
     let mut line = Vec::new(heap);
+    // One buffer for all lines, where `split` would allocate each line anew.
     for _ in 0..u64::MAX {
         line.clear();
         if input.read_until(b'\n', &mut line)? == 0 {

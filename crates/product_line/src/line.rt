@@ -1,14 +1,18 @@
-ghost use Rattle.std.specs.Prelude.{◌≡◌, ℕ, ◌+◌, ◌*◌, ◌<◌, ◌≤◌, length, take, drop, string_bytes, MatchResult};
+ghost use Rattle.std.specs.Prelude.{◌≡◌, ℕ, Some, ◌+◌, ◌*◌, ◌<◌, ◌≤◌, length, take, drop, string_bytes, MatchResult};
 ghost use Rattle.element_text.specs.Hex.{Writes, byte_count};
-ghost use Rattle.product_line.specs.declared.line.LineFault.TheVariants.{Memory};
+ghost use Rattle.product_line.specs.declared.line.LineFault.TheVariants.{Letter, Memory};
+ghost use Rattle.product_line.specs.Letters.{fault_text};
 ghost use Rattle.product_line.specs.Lines.{Product, BadOperand, BadRest, shaped};
 
-use element_text::element::{TextFault, byte_count, element_text, parse_element};
+use element_text::element::{byte_count, element_text, parse_digits};
 use level::level::Level;
+use level_name::UnknownLetter;
 use std::alloc::{AllocError, Global};
+use std::error::Error;
+use std::fmt;
 
 // Why a line has no product for its answer.
-#[derive(Clone, Copy, Drop)]
+#[derive(Clone, Copy, Debug, PartialEq, Eq)]
 pub enum LineFault {
     // The first character names no level.
     Letter,
@@ -20,11 +24,44 @@ pub enum LineFault {
     Memory,
 }
 
+impl fmt::Display for LineFault {
+    ghost output = { λ fault. Some (fault_text fault) };
+
+    fn fmt<W: fmt::Write>(&self, f: &mut fmt::Formatter<W>) -> fmt::Result {
+        match self {
+            LineFault::Letter => {
+                write!(
+                    f,
+                    "no level letter (b, w, d, q or a) at the start of the line"
+                )
+            }
+            LineFault::Shape { digits } => write!(
+                f,
+                "the letter is not followed by a space and {digits} digits, twice"
+            ),
+            LineFault::Digit { place } => write!(
+                f,
+                "character {place} is no lower-case hexadecimal digit"
+            ),
+            LineFault::Memory => write!(f, "no memory for the answer"),
+        }
+    }
+}
+
+impl Error for LineFault {}
+
+impl From<UnknownLetter> for LineFault {
+    ghost from_gives = { λ e r. r ≡ Letter };
+
+    fn from(_e: UnknownLetter) -> LineFault {
+        LineFault::Letter
+    }
+}
+
 impl From<AllocError> for LineFault {
     ghost from_gives = { λ e r. r ≡ Memory };
 
-    fn from(e: AllocError) -> LineFault {
-        let AllocError = e;
+    fn from(_e: AllocError) -> LineFault {
         LineFault::Memory
     }
 }
@@ -42,17 +79,11 @@ fn operand<L: Level>(rest: &[u8], from: usize, digits: usize) -> Result<L, LineF
     requires { (digits ≡ 2 * byte_count L.Level.log) × ((from + digits ≤ length rest.now) × (length rest.now ≤ 66)) }
     ensures { MatchResult result (λ x. Writes (take digits (drop from rest.now)) (L.means x)) (BadOperand rest.now) }
 {
-    match parse_element::<L>(&rest[from..from + digits]) {
+    match parse_digits(&rest[from..from + digits]) {
         Ok(x) => Ok(x),
-        Err(fault) => match fault {
-            TextFault::Digit { at } => Err(LineFault::Digit {
-                place: from + at + 2,
-            }),
-            TextFault::Length {
-                expected: _,
-                actual: _,
-            } => Err(LineFault::Shape { digits }),
-        },
+        Err(fault) => Err(LineFault::Digit {
+            place: place(from, fault.at),
+        }),
     }
 }
 
@@ -72,7 +103,7 @@ pub fn product<L: Level>(heap: Global, rest: &[u8]) -> Result<String, LineFault>
     if !has_shape(rest, digits) {
         return Err(LineFault::Shape { digits });
     }
-    let x = operand::<L>(rest, 1, digits)?;
-    let y = operand::<L>(rest, digits + 2, digits)?;
+    let x: L = operand(rest, 1, digits)?;
+    let y: L = operand(rest, digits + 2, digits)?;
     Ok(element_text(heap, x.mul(y))?)
 }

@@ -1,10 +1,11 @@
 -- A term that is being added to the buckets, byte by byte.
-use Rattle.std.proofs.Common.{◌≡◌, ℕ, ◌+◌, ◌*◌, ◌^◌, ◌<◌, ◌≤◌, eqb, List, length, get_or, set, sym, refl, ap, ◌∙◌, ap₂, ⊎_elim, add-one, arith, pow_mono, below_more}
+use Rattle.std.proofs.Common.{◌≡◌, ℕ, ◌+◌, ◌*◌, ◌^◌, ◌<◌, ◌≤◌, eqb, List, length, get_or, set, take, sym, refl, ap, ◌∙◌, ap₂, ⊎_elim, add-one, arith, length-take-le, get_or-take, pow_mono, below_more}
+use Rattle.std.proofs.lemmas.List.{length-take}
 use Rattle.std.proofs.lemmas.Bool.{cases_eq, eq-eqb, ne_eqb}
 use Rattle.level.specs.Element.{Element, plus}
 use Rattle.level.specs.Bytes.{sixteen}
 use Rattle.level.proofs.Elements.{plus_zeros}
-use Rattle.level.proofs.Digits.{digit_at}
+use Rattle.level.proofs.Digits.{digit_at, bytes_are_coordinates}
 use Rattle.multilinear.specs.Lent.{lent}
 use Rattle.multilinear.specs.Sums.{sum, where_set}
 use Rattle.multilinear.proofs.Lent.{lent_read, lent_written, lent_kept}
@@ -47,13 +48,25 @@ module _ {k : ℕ} (values : List ℕ) (b : Element k) where
         left = λ i g. lent_kept means xs at i x (omega arith) ∙ w.left i (omega arith);
       }
 
--- all bytes of a
-pub adding_ends : {k : ℕ} (a b : Element k) (values : List ℕ) (done n : ℕ) (before after : ℕ → Element k) → k ≤ 7 → values ≡ sixteen a → n ≡ bytes k → n ≤ done
-    → Adding values b done before after → Added a b before after
+-- a byte of an element, among the first n
+pub byte_small : {k : ℕ} (a : Element k) (all : List ℕ) (n j : ℕ) → all ≡ sixteen a → j < length (take n all) → get_or (take n all) j 0 < 256
+byte_small a all n j shown h =
+    let l : j < n = omega (arith, length-take n all) in
+    omega (arith, get_or-take n all j 0 l ∙ ap (λ vs. get_or vs j 0) shown, bytes_are_coordinates.shown_octets a j)
+
+byte_shown : {k : ℕ} (x : Element k) (i : ℕ) → i < 16 → get_or (sixteen x) i 0 ≡ byte x i
 unfolding sixteen
-adding_ends {k} a b values done n before after narrow shown e h w j s l g =
-    let value : get_or values j 0 ≡ byte a j = ap (λ vs. get_or vs j 0) shown ∙ digit_at 16 a.number j (omega (arith, few_bytes k narrow)) in
-    w.added j (omega arith) s g ∙ ap (λ v. plus (before (256 * j + s)) (where_set (eqb v s) b)) value
+byte_shown x i h = digit_at 16 x.number i h
+
+-- all bytes of a
+pub adding_ends : {k : ℕ} (a b : Element k) (all : List ℕ) (done n : ℕ) (before after : ℕ → Element k) → k ≤ 7 → all ≡ sixteen a → n ≡ bytes k
+    → length (take n all) ≤ done → Adding (take n all) b done before after → Added a b before after
+adding_ends {k} a b all done n before after narrow shown e h w j s l g =
+    let inside : j < n = omega arith in
+    let few = few_bytes k narrow in
+    let size = length-take-le n all (omega (arith, ap length shown, bytes_are_coordinates.shown_length a)) in
+    let value : get_or (take n all) j 0 ≡ byte a j = get_or-take n all j 0 inside ∙ ap (λ vs. get_or vs j 0) shown ∙ byte_shown a j (omega arith) in
+    w.added j (omega (arith, size)) s g ∙ ap (λ v. plus (before (256 * j + s)) (where_set (eqb v s) b)) value
 
 module _ {k : ℕ} (a b : ℕ → Element k) where
   -- no terms

@@ -1,37 +1,73 @@
 -- Buckets of which the upper half is being added into the lower.
-use Rattle.std.proofs.Common.{◌≡◌, ℕ, ◌+◌, ◌<◌, ◌≤◌, List, length, get_or, set, sym, refl, ap, ◌∙◌, ap₂, inl, inr, ⊎_elim, add-one, arith, below_more}
+use Rattle.std.proofs.Common.{◌≡◌, ℕ, ◌+◌, ◌-◌, ◌<◌, ◌≤◌, List, ◌++◌, map, length, get_or, set, sym, refl, ap, ◌∙◌, ap₂, add-one, arith, below_more}
+use lib.ListN.{length-map}
+use Rattle.std.proofs.lemmas.List.{get_or_append_left, get_or-append_right, get_or-map, map-append}
 use Rattle.level.specs.Element.{Element, plus, zeros}
 use Rattle.multilinear.specs.Lent.{lent}
 use Rattle.multilinear.specs.Sums.{sum}
 use Rattle.multilinear.proofs.Lent.{lent_read, lent_written, lent_kept}
+use Rattle.multilinear.proofs.Sums.{sum_same}
 use Rattle.products.specs.Halves.{Halved}
 
--- the first `done` places are halved, and `upper` is the sum of what was added into them
-pub record Halving {k : ℕ} (start half done : ℕ) (before after : ℕ → Element k) (upper : Element k) : Type 0 where
-  pub halved : Halved start half done before after
-  pub total : upper ≡ sum done (λ s. before (start + half + s))
+-- the first `done` places of the lower half have those of the upper added, and `total` is the sum of what was added
+pub record Halving {k : ℕ} (done : ℕ) (upper lower_before lower : ℕ → Element k) (total : Element k) : Type 0 where
+  pub added : (s : ℕ) → s < done → lower s ≡ plus (lower_before s) (upper s)
+  pub kept : (s : ℕ) → done ≤ s → lower s ≡ lower_before s
+  pub summed : total ≡ sum done upper
 
-module _ {k : ℕ} (start half : ℕ) where
-  pub halving_begins : (before : ℕ → Element k) (upper : Element k) → upper ≡ zeros k → Halving start half 0 before before upper
+module _ {X : Type 0} {k : ℕ} (means : X → Element k) where
+  -- two halves joined
+  lent_front : (xs ys : List X) (i : ℕ) → i < length xs → lent means (xs ++ ys) i ≡ lent means xs i
+  lent_front xs ys i h =
+      ap (λ zs. get_or zs i (zeros k)) (map-append means xs ys)
+      ∙ get_or_append_left (map means xs) (map means ys) (zeros k) i (omega (arith, length-map xs means))
+
+  lent_back : (xs ys : List X) (n i : ℕ) → length xs ≡ n → n ≤ i → lent means (xs ++ ys) i ≡ lent means ys (i - n)
+  lent_back xs ys n i size h =
+      ap (λ zs. get_or zs i (zeros k)) (map-append means xs ys)
+      ∙ get_or-append_right (map means xs) (map means ys) n i (zeros k) (length-map xs means ∙ size) h
+
+  pub halving_begins : (upper lower : ℕ → Element k) (total : Element k) → total ≡ zeros k → Halving 0 upper lower lower total
   unfolding sum
-  halving_begins before upper e = record { halved = record { lower = λ s h. absurd (omega arith); kept = λ i h. refl }; total = e }
+  halving_begins upper lower total e = record { added = λ s h. absurd (omega arith); kept = λ s h. refl; summed = e }
 
   -- one place more
-  pub halving_more : {X : Type 0} (means : X → Element k) (done : ℕ) (before : ℕ → Element k) (xs : List X) (t y x : X) (upper total : Element k)
-      → done < half → start + half + half ≤ length xs → t ≡ get_or xs (start + half + done) t → y ≡ get_or xs (start + done) y
-      → means x ≡ plus (means y) (means t) → total ≡ plus upper (means t)
-      → Halving start half done before (lent means xs) upper → Halving start half (done + 1) before (lent means (set xs (start + done) x)) total
+  pub halving_more : (done : ℕ) (lower_before : ℕ → Element k) (uppers lowers : List X) (t y x : X) (total more : Element k)
+      → done < length uppers → done < length lowers → t ≡ get_or uppers done t
+      → means x ≡ plus (means (get_or lowers done y)) (means t) → more ≡ plus total (means t)
+      → Halving done (lent means uppers) lower_before (lent means lowers) total
+      → Halving (done + 1) (lent means uppers) lower_before (lent means (set lowers done x)) more
   unfolding sum
-  halving_more means done before xs t y x upper total h fits read low made more w =
-      let at = start + done in
-      let above = lent_read means xs (start + half + done) t (omega arith) read ∙ w.halved.kept (start + half + done) (inr (omega arith)) in
-      let below = lent_read means xs at y (omega arith) low ∙ w.halved.kept at (inr (omega arith)) in
+  halving_more done lower_before uppers lowers t y x total more h l read made step w =
+      let above = lent_read means uppers done t h read in
+      let below : means (get_or lowers done y) ≡ lower_before done = sym (get_or-map means lowers done y (zeros k) l) ∙ w.kept done (omega arith) in
       record {
-        halved = record {
-          lower = below_more _ done (λ s l. lent_kept means xs at (start + s) x (omega arith) ∙ w.halved.lower s l)
-              (lent_written means xs at x (omega arith) ∙ made ∙ ap₂ plus below above);
-          kept = λ i out. lent_kept means xs at i x (⊎_elim (λ l. omega arith) (λ l. omega arith) out)
-              ∙ w.halved.kept i (⊎_elim (λ l. inl l) (λ l. inr (omega arith)) out);
-        };
-        total = more ∙ ap₂ plus w.total above ∙ ap (λ n. sum n (λ s. before (start + half + s))) (sym (add-one done));
+        added = below_more _ done (λ s g. lent_kept means lowers done s x (omega arith) ∙ w.added s g)
+            (lent_written means lowers done x l ∙ made ∙ ap₂ plus below above);
+        kept = λ s g. lent_kept means lowers done s x (omega arith) ∙ w.kept s (omega arith);
+        summed = step ∙ ap₂ plus w.summed above ∙ ap (λ n. sum n (lent means uppers)) (sym (add-one done));
       }
+
+  -- all places
+  module _ (half done : ℕ) (before lowers_before uppers lowers : List X) (total : Element k) (parts : before ≡ lowers_before ++ uppers)
+      (size_before : length lowers_before ≡ half) (size : length lowers ≡ half) (all : done ≡ half)
+      (w : Halving done (lent means uppers) (lent means lowers_before) (lent means lowers) total) where
+    upper_is : (i : ℕ) → half ≤ i → lent means uppers (i - half) ≡ lent means before i
+    upper_is i h = sym (ap (λ xs. lent means xs i) parts ∙ lent_back lowers_before uppers half i size_before h)
+
+    pub halving_sum : total ≡ sum half (λ s. lent means before (half + s))
+    halving_sum =
+        w.summed ∙ ap (λ n. sum n (lent means uppers)) all
+        ∙ sum_same half _ _ (λ s h.
+        let place : half + s - half ≡ s = omega arith in
+        ap (lent means uppers) (sym place) ∙ upper_is (half + s) (omega arith))
+
+    pub halving_ends : Halved half half (lent means before) (lent means (lowers ++ uppers))
+    halving_ends = record {
+      lower = λ s h.
+          let place : half + s - half ≡ s = omega arith in
+          lent_front lowers uppers s (omega arith) ∙ w.added s (omega arith)
+          ∙ ap₂ plus (sym (ap (λ xs. lent means xs s) parts ∙ lent_front lowers_before uppers s (omega arith)))
+          (ap (lent means uppers) (sym place) ∙ upper_is (half + s) (omega arith));
+      kept = λ i h. lent_back lowers uppers half i size h ∙ upper_is i h;
+    }

@@ -1,6 +1,6 @@
 -- The rows of an element's bytes that are being read out, byte by byte, and what they are.
-use Rattle.std.proofs.Common.{◌≡◌, ℕ, ◌+◌, ◌*◌, ◌/◌, ◌%◌, ◌^◌, ◌<◌, ◌≤◌, List, length, sym, refl, ap, ◌∙◌, inl, inr, ⊎_elim, arith, below_more}
-use mathlib.Core.Path.{fun_ext}
+use Rattle.std.proofs.Common.{◌≡◌, ℕ, ◌+◌, ◌*◌, ◌/◌, ◌%◌, ◌^◌, ◌<◌, ◌≤◌, List, length, take, drop, sym, refl, ap, ◌∙◌, ⊎_elim, arith, below_more}
+use borrow.Rule.Slice.PartMut.{put_mid}
 use Rattle.std.proofs.lemmas.Bool.{cases_lt}
 use Rattle.level.specs.Element.{Element, width}
 use Rattle.multilinear.specs.Lent.{lent}
@@ -12,7 +12,9 @@ use Rattle.tensor_algebra.proofs.SubsetSums.{eights}
 use Rattle.tensor_algebra.proofs.BucketSums.{row_from_buckets}
 use Rattle.products.specs.Buckets.{bytes, Bucketed, Summed}
 use Rattle.products.specs.Halves.{halvings, of_byte, with_bit, ByteRead}
+use Rattle.tensor_rows.proofs.Places.{before_part, in_part, past_part, of_part}
 use Rattle.products.proofs.Filling.{lent_past}
+use Rattle.products.proofs.RowsByHalves.{halvings_same}
 
 -- the rows of the bytes below n are read out
 pub record BytesRead {k : ℕ} (n : ℕ) (before after rows_after : ℕ → Element k) : Type 0 where
@@ -24,19 +26,28 @@ module _ {k : ℕ} (before : ℕ → Element k) where
   pub bytes_begin : (rows : ℕ → Element k) → BytesRead 0 before before rows
   bytes_begin rows = record { rows = λ j i h. absurd (omega arith); buckets = λ j s h. absurd (omega arith); left = λ i h. refl }
 
-  -- one byte more
-  pub bytes_more : (n : ℕ) (now next rows-now rows_next : ℕ → Element k)
-      → ByteRead n now next rows-now rows_next → BytesRead n before now rows-now → BytesRead (n + 1) before next rows_next
-  bytes_more n now next rows-now rows_next r w =
-      let as_before : of_byte n now ≡ of_byte n before = fun_ext (λ s. w.left (256 * n + s) (omega arith)) in
+  -- one byte more, read out of its part of the buckets into its part of the rows
+  pub bytes_more : {X : Type 0} (means : X → Element k) (n : ℕ) (now chunk ys rows_chunk : List X) (wide narrow : ℕ) → wide ≡ 256 → narrow ≡ 8 → 256 * n + 256 ≤ length now → 8 * n + 8 ≤ length ys
+      → length chunk ≡ 256 → length rows_chunk ≡ 8
+      → ByteRead (lent means (take wide (drop (256 * n) now))) (lent means chunk) (lent means rows_chunk)
+      → BytesRead n before (lent means now) (lent means ys)
+      → BytesRead (n + 1) before (lent means (put_mid (256 * n) wide now chunk)) (lent means (put_mid (8 * n) narrow ys rows_chunk))
+  bytes_more means n now chunk ys rows_chunk wide narrow all_buckets all_rows room rows_room size rows_size r w =
+      let held : ℕ → Element k = lent means (take wide (drop (256 * n) now)) in
+      let as_before : (s : ℕ) → s < 256 → held s ≡ of_byte n before s =
+      λ s l. of_part means (256 * n) wide now s (omega arith) ∙ w.left (256 * n + s) (omega arith) in
       record {
         rows = λ j i h l.
-            below_more (λ a. rows_next (8 * a + i) ≡ with_bit i (of_byte a before)) n
-            (λ a g. r.other_rows (8 * a + i) (inl (omega arith)) ∙ w.rows a i g l) (r.rows i l ∙ ap (with_bit i) as_before) j h;
+            below_more (λ a. lent means (put_mid (8 * n) narrow ys rows_chunk) (8 * a + i) ≡ with_bit i (of_byte a before)) n
+            (λ a g. before_part means (8 * n) narrow ys rows_chunk (8 * a + i) (omega arith) (omega arith) ∙ w.rows a i g l)
+            (in_part means (8 * n) narrow ys rows_chunk i (omega arith) (omega arith) ∙ r.rows i l
+            ∙ sum_same 256 _ _ (λ s m. ap (at_bit (s / 2 ^ i % 2)) (as_before s m))) j h;
         buckets = λ j s h l.
-            below_more (λ a. next (256 * a + s) ≡ halvings 8 (of_byte a before) s) n
-            (λ a g. r.other_buckets (256 * a + s) (inl (omega arith)) ∙ w.buckets a s g l) (r.buckets s l ∙ ap (λ f. halvings 8 f s) as_before) j h;
-        left = λ i h. r.other_buckets i (inr (omega arith)) ∙ w.left i (omega arith);
+            below_more (λ a. lent means (put_mid (256 * n) wide now chunk) (256 * a + s) ≡ halvings 8 (of_byte a before) s) n
+            (λ a g. before_part means (256 * n) wide now chunk (256 * a + s) (omega arith) (omega arith) ∙ w.buckets a s g l)
+            (in_part means (256 * n) wide now chunk s (omega arith) (omega arith) ∙ r.buckets s l
+            ∙ halvings_same 8 held (of_byte n before) (omega arith) as_before s l) j h;
+        left = λ i h. past_part means (256 * n) wide now chunk i (omega arith) (omega arith) (omega arith) ∙ w.left i (omega arith);
       }
 
   -- the rows of all bytes are those of the sum

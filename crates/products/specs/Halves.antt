@@ -1,14 +1,14 @@
 -- The rows of a byte from its 256 buckets. Bit by bit from the highest, the sum of the upper half is the row of that bit, and with
 -- the upper half added into the lower, the lower half alone serves the bits below.
-use Rattle.std.specs.Prelude.{◌≡◌, ℕ, zero, suc, ◌+◌, ◌-◌, ◌*◌, ◌/◌, ◌%◌, ◌^◌, ◌<◌, ◌≤◌, cond, ◌⊎◌, nat_lt}
+use Rattle.std.specs.Prelude.{◌≡◌, ℕ, zero, suc, ◌+◌, ◌-◌, ◌*◌, ◌/◌, ◌%◌, ◌^◌, ◌<◌, ◌≤◌, cond, nat_lt}
 use Rattle.level.specs.Element.{Element, plus}
 use Rattle.multilinear.specs.Sums.{sum, at_bit}
 use Rattle.products.specs.Buckets.{bytes}
 
--- each of n places from `start` on has the place `half` further on added; every other place is left alone
-pub record Halved {k : ℕ} (start half n : ℕ) (before after : ℕ → Element k) : Type 0 where
-  pub lower : (s : ℕ) → s < n → after (start + s) ≡ plus (before (start + s)) (before (start + half + s))
-  pub kept : (i : ℕ) → (i < start) ⊎ (start + n ≤ i) → after i ≡ before i
+-- each of the first n places has the place `half` further on added; every other place is left alone
+pub record Halved {k : ℕ} (half n : ℕ) (before after : ℕ → Element k) : Type 0 where
+  pub lower : (s : ℕ) → s < n → after s ≡ plus (before s) (before (half + s))
+  pub kept : (s : ℕ) → n ≤ s → after s ≡ before s
 
 -- a table of 256 entries after n halvings, the first at 128
 unfoldable pub halvings : {k : ℕ} → ℕ → (ℕ → Element k) → ℕ → Element k
@@ -25,12 +25,10 @@ of_byte j held s = held (256 * j + s)
 abbrev pub with_bit : {k : ℕ} → ℕ → (ℕ → Element k) → Element k
 with_bit i f = sum 256 (λ s. at_bit (s / 2 ^ i % 2) (f s))
 
--- The rows of byte j are read out, and its buckets are left halved eight times. Every other row and bucket is left alone.
-pub record ByteRead {k : ℕ} (j : ℕ) (before after rows_before rows_after : ℕ → Element k) : Type 0 where
-  pub rows : (i : ℕ) → i < 8 → rows_after (8 * j + i) ≡ with_bit i (of_byte j before)
-  pub other_rows : (u : ℕ) → (u < 8 * j) ⊎ (8 * j + 8 ≤ u) → rows_after u ≡ rows_before u
-  pub buckets : (s : ℕ) → s < 256 → after (256 * j + s) ≡ halvings 8 (of_byte j before) s
-  pub other_buckets : (i : ℕ) → (i < 256 * j) ⊎ (256 * j + 256 ≤ i) → after i ≡ before i
+-- the eight rows of a byte are read out of its buckets, which are left halved eight times
+pub record ByteRead {k : ℕ} (before after rows_after : ℕ → Element k) : Type 0 where
+  pub rows : (i : ℕ) → i < 8 → rows_after i ≡ with_bit i before
+  pub buckets : (s : ℕ) → s < 256 → after s ≡ halvings 8 before s
 
 -- the buckets of each byte j are its table f(j), halved eight times
 abbrev pub AllHalved : {k : ℕ} → (ℕ → ℕ → Element k) → (ℕ → Element k) → Type 0

@@ -1,32 +1,18 @@
 // Terms gathered in buckets.
 ghost use Rattle.std.specs.Prelude.{◌≡◌, ◌+◌, ◌*◌, ◌<◌, ◌≤◌, length};
-ghost use Rattle.level.specs.Element.{zeros};
 ghost use Rattle.multilinear.specs.Lent.{lent};
 ghost use Rattle.products.specs.Buckets.{bytes, Empty, Added, Bucketed};
 
+use coordinates::whole_bytes;
 use level::level::Level;
-
-// How many bytes the coordinates of an element fill.
-pub(crate) fn byte_count<L: Level>() -> usize
-    requires { L.Level.log ≤ 7 }
-    ensures { result ≡ bytes L.Level.log }
-{
-    (1 << L::log_width()) / 8
-}
-
-// What an empty bucket holds.
-fn empty<L: Level>() -> L
-    ensures { L.means result ≡ zeros L.Level.log }
-{
-    L::zero()
-}
 
 // Empties every bucket.
 pub(crate) fn empty_all<L: Level>(buckets: &mut [L])
     ensures { Empty (lent L.means buckets.new) }
 {
-    for i in 0..buckets.len() {
-        buckets[i] = empty();
+    // A loop, since `fill` asks for a clone that cannot fail, which a level does not promise.
+    for bucket in buckets.iter_mut() {
+        *bucket = L::zero();
     }
 }
 
@@ -45,8 +31,8 @@ pub(crate) fn add_term<L: Level>(buckets: &mut [L], a: L, b: L)
     ensures { Added (L.means a) (L.means b) (lent L.means buckets.old) (lent L.means buckets.new) }
 {
     let values = a.to_bytes();
-    for j in 0..byte_count::<L>() {
-        let at = place(j, values[j]);
+    for (j, value) in values[..whole_bytes::<L>()].iter().enumerate() {
+        let at = place(j, *value);
         buckets[at] = buckets[at].add(b);
     }
 }
@@ -59,7 +45,8 @@ pub(crate) fn add_terms<L: Level>(buckets: &mut [L], left: &[L], right: &[L])
     requires terms { length right.now ≡ length left.now }
     ensures { Bucketed (lent L.means left.now) (lent L.means right.now) (length left.now) (lent L.means buckets.new) }
 {
-    for w in 0..left.len() {
-        add_term(buckets, left[w], right[w]);
+    // An index into the right factors, since a zip of the two takes a fifth longer.
+    for (w, a) in left.iter().enumerate() {
+        add_term(buckets, *a, right[w]);
     }
 }

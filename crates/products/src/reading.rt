@@ -6,20 +6,23 @@ ghost use Rattle.multilinear.specs.Sums.{sum};
 ghost use Rattle.products.specs.Buckets.{bytes, Bucketed, Summed};
 ghost use Rattle.products.specs.Halves.{Halved, of_byte, ByteRead, AllHalved};
 
-use crate::gathering::byte_count;
+use coordinates::whole_bytes;
 use level::level::Level;
 
 // Adds the upper of two halves of `half` buckets into the lower, and returns the sum of the upper.
-fn halve<L: Level>(buckets: &mut [L], start: usize, half: usize) -> L
-    requires { start + half + half ≤ length buckets.old }
-    ensures upper { L.means result ≡ sum half (λ s. lent L.means buckets.old (start + half + s)) }
-    ensures halved { Halved start half half (lent L.means buckets.old) (lent L.means buckets.new) }
+fn halve<L: Level>(buckets: &mut [L], half: usize) -> L
+    requires { half + half ≤ length buckets.old }
+    ensures upper { L.means result ≡ sum half (λ s. lent L.means buckets.old (half + s)) }
+    ensures halved { Halved half half (lent L.means buckets.old) (lent L.means buckets.new) }
 {
+    let (lower, upper) = buckets.split_at_mut(half);
     let mut sum = L::zero();
-    for s in 0..half {
-        let upper = buckets[start + half + s];
-        buckets[start + s] = buckets[start + s].add(upper);
-        sum = sum.add(upper);
+
+    // An index into the upper half, since of what is written through a zip with `iter_mut` a proof knows only the length.
+    for (s, bucket) in lower.iter_mut().enumerate() {
+        let added = upper[s];
+        *bucket = bucket.add(added);
+        sum = sum.add(added);
     }
     sum
 }
@@ -32,15 +35,16 @@ fn half(i: usize) -> usize
     1 << i
 }
 
-// Reads the rows of byte j out of its buckets, from the highest bit down. It takes 510 additions, two for each value but 0; adding each
+// Reads the rows of one byte out of its buckets, from the highest bit down. It takes 510 additions, two for each value but 0; adding each
 // bucket into the rows of its set bits would take 1024.
-fn read_byte<L: Level>(buckets: &mut [L], rows: &mut [L], j: usize)
-    requires buckets { 256 * j + 256 ≤ length buckets.old }
-    requires rows { 8 * j + 8 ≤ length rows.old }
-    ensures { ByteRead j (lent L.means buckets.old) (lent L.means buckets.new) (lent L.means rows.old) (lent L.means rows.new) }
+fn read_byte<L: Level>(buckets: &mut [L], rows: &mut [L])
+    requires buckets { length buckets.old ≡ 256 }
+    requires rows { length rows.old ≡ 8 }
+    ensures { ByteRead (lent L.means buckets.old) (lent L.means buckets.new) (lent L.means rows.new) }
 {
+    // Numbers of bits, since of what is written through `iter_mut().rev()` a proof knows only the length.
     for i in (0..8).rev() {
-        rows[8 * j + i] = halve(buckets, 256 * j, half(i));
+        rows[i] = halve(buckets, half(i));
     }
 }
 
@@ -53,7 +57,11 @@ pub(crate) fn read_rows<L: Level>(buckets: &mut [L], rows: &mut [L])
     ensures rows { (a b : ℕ → Element L.Level.log) (n : ℕ) → Bucketed a b n (lent L.means buckets.old) → Summed a b n (lent L.means rows.new) }
     ensures buckets { AllHalved (λ j. of_byte j (lent L.means buckets.old)) (lent L.means buckets.new) }
 {
-    for j in 0..byte_count::<L>() {
-        read_byte(buckets, rows, j);
+    // Numbers of bytes, since of what is written through `chunks_exact_mut` a proof knows only the length.
+    for j in 0..whole_bytes::<L>() {
+        read_byte(
+            &mut buckets[256 * j..256 * j + 256],
+            &mut rows[8 * j..8 * j + 8],
+        );
     }
 }

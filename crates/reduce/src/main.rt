@@ -2,13 +2,9 @@
 #![tactic(auto)]
 
 use reducing::reduce::reduce;
+use replies::program::answer;
 use std::io;
-use std::io::Read;
 
 fn main(rt: HostRuntime) -> io::Result<()> {
-    let heap = rt.alloc();
-    let mut input = Vec::new(heap);
-    rt.stdin().read_to_end(&mut input)?;
-    let answer = reduce(heap, input.as_slice())?;
-    print!(rt; "{answer}")
+    answer(&rt, reduce)
 }

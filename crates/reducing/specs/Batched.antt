@@ -7,8 +7,8 @@ use Rattle.reducing.specs.declared.batch.SlotBatch.{SlotBatch}
 
 abbrev pub batching_of : {X : Type 0} {k : ℕ} → (X → Element k) → SlotBatch X → Batching k
 batching_of means b = record {
-  slot = map means b.slot.now;
-  batching = map means b.batching.now;
-  stepping = steps means b.stepping;
+  slot = map means b.batching.slot.now;
+  batching = map means b.batching.point.now;
+  stepping = steps means b.batching.stepping;
   initial = means b.tables.initial;
 }

@@ -10,48 +10,41 @@ ghost use Rattle.report_lines.specs.Report.{batching_text, closing_text, Reporte
 ghost use Rattle.reducing.specs.Batched.{batching_of};
 
 use crate::batch::SlotBatch;
-use crate::steps::close;
 use level::level::Level;
-use report_lines::lines::{element_line, element_lines};
+use report_lines::lines::{element_lines, line};
+use report_lines::shown::Shown;
 use report_lines::stop::Stop;
 use std::alloc::{AllocError, Global};
 
 // Adds the lines of a batching: the initial sum and the weights.
 pub(crate) fn batch_lines<L: Level>(
-    heap: Global,
     out: &mut String,
     batch: &SlotBatch<L>,
 ) -> Result<(), AllocError>
-    requires count { length batch.now.tables.weights.items ≡ 2 ^ length batch.now.slot.now }
-    requires weights { (i : ℕ) → i < 2 ^ length batch.now.slot.now → lent L.means batch.now.tables.weights.items i ≡ weight L.arithmetic (equality L.arithmetic (map L.means batch.now.batching.now)) (map L.means batch.now.slot.now) (steps L.means batch.now.stepping) i }
+    requires count { length batch.now.tables.weights.items ≡ 2 ^ length batch.now.batching.slot.now }
+    requires weights { (i : ℕ) → i < 2 ^ length batch.now.batching.slot.now → lent L.means batch.now.tables.weights.items i ≡ weight L.arithmetic (equality L.arithmetic (map L.means batch.now.batching.point.now)) (map L.means batch.now.batching.slot.now) (steps L.means batch.now.batching.stepping) i }
     ensures { OnOk result (string_bytes out.new ≡ string_bytes out.old ++ batching_text L.arithmetic (batching_of L.means batch.now)) }
 {
-    element_line(heap, out, "initial", batch.tables.initial)?;
-    element_lines(heap, out, "weight", batch.tables.weights.as_slice())?;
-    Ok(())
+    line(out, "initial", Shown(batch.tables.initial))?;
+    element_lines(out, "weight", batch.tables.weights.as_slice())
 }
 
 // Adds the line of each closing point, until one is refused.
 fn closing_lines_through<L: Level>(
-    heap: Global,
     out: &mut String,
     batch: &SlotBatch<L>,
     closings: &[Vec<L>],
     scratch: &mut [L],
 ) -> Result<(), Stop>
     requires narrow { L.Level.log ≤ 7 }
-    requires table { Tabulated L.means L.arithmetic L.arithmetic.unit (map L.means batch.now.batching.now) batch.now.tables.eq_batch.items }
+    requires table { Tabulated L.means L.arithmetic L.arithmetic.unit (map L.means batch.now.batching.point.now) batch.now.tables.eq_batch.items }
     requires entries { length batch.now.tables.eq_batch.items ≡ width L.Level.log }
-    requires rows { RowsWithin (steps L.means batch.now.stepping) (length batch.now.slot.now) }
+    requires rows { RowsWithin (steps L.means batch.now.batching.stepping) (length batch.now.batching.slot.now) }
     requires scratch { length scratch.old ≡ 3 * width L.Level.log }
     ensures { Reported result (string_bytes out.new) (string_bytes out.old ++ closing_text L.arithmetic (batching_of L.means batch.now) (map (λ v. map L.means v.items) closings.now)) }
 {
-    let slot = batch.slot;
-    let stepping = batch.stepping;
-    let eq_batch = batch.tables.eq_batch.as_slice();
     for z in closings {
-        let value = close(slot, eq_batch, stepping, z.as_slice(), scratch)?;
-        element_line(heap, out, "closing", value)?;
+        line(out, "closing", Shown(batch.close(z.as_slice(), scratch)?))?;
     }
     Ok(())
 }
@@ -64,12 +57,11 @@ pub(crate) fn closing_lines<L: Level>(
     closings: &[Vec<L>],
 ) -> Result<(), Stop>
     requires narrow { L.Level.log ≤ 7 }
-    requires table { Tabulated L.means L.arithmetic L.arithmetic.unit (map L.means batch.now.batching.now) batch.now.tables.eq_batch.items }
+    requires table { Tabulated L.means L.arithmetic L.arithmetic.unit (map L.means batch.now.batching.point.now) batch.now.tables.eq_batch.items }
     requires entries { length batch.now.tables.eq_batch.items ≡ width L.Level.log }
-    requires rows { RowsWithin (steps L.means batch.now.stepping) (length batch.now.slot.now) }
+    requires rows { RowsWithin (steps L.means batch.now.batching.stepping) (length batch.now.batching.slot.now) }
     ensures { Reported result (string_bytes out.new) (string_bytes out.old ++ closing_text L.arithmetic (batching_of L.means batch.now) (map (λ v. map L.means v.items) closings.now)) }
 {
-    let mut scratch = Vec::new(heap);
-    scratch.resize(3 * batch.tables.eq_batch.len(), L::zero())?;
-    closing_lines_through(heap, out, batch, closings, scratch.as_mut_slice())
+    let mut scratch = vec![in heap; L::zero(); 3 * batch.tables.eq_batch.len()]?;
+    closing_lines_through(out, batch, closings, scratch.as_mut_slice())
 }

@@ -15,6 +15,7 @@ use plain::opening::kept_row_variables;
 use problem::problem::Problem;
 use reduction::work::{OpenedTable, work};
 use refusals::steps::check_batching;
+use replies::reporter::Reporter;
 use report_lines::finish::finish;
 use report_lines::lines::element_lines;
 use report_lines::opening::opening_lines;
@@ -47,7 +48,7 @@ fn batched_lines<'a, L: Level>(
         batching,
         problem.challenge,
     )?;
-    batch_lines(heap, out, &batch)?;
+    batch_lines(out, &batch)?;
     closing_lines(heap, out, &batch, problem.closings.as_slice())
 }
 
@@ -66,7 +67,7 @@ fn values_lines<L: Level>(
     ensures { Reported result (string_bytes out.new) (string_bytes out.old ++ values_text L.arithmetic (task_of L.means problem.now)) }
 {
     let opening = values(heap, opened, problem.point.as_slice(), problem.view)?;
-    opening_lines(heap, out, &opening)?;
+    opening_lines(out, &opening)?;
     match &problem.batching {
         Some(batching) => batched_lines(heap, out, problem, opened, batching.as_slice()),
         None => Ok(()),
@@ -103,7 +104,7 @@ fn problem_lines<L: Level>(heap: Global, out: &mut String, problem: &Problem<L>)
     let bits = problem.bits.as_slice();
     let variables = packed_variables::<L>(bits)?;
     let packed = pack::<L>(heap, bits, 1 << variables)?;
-    element_lines(heap, out, "packed", packed.as_slice())?;
+    element_lines(out, "packed", packed.as_slice())?;
     opened_lines(heap, out, problem, packed.as_slice(), variables)
 }
 
@@ -114,5 +115,14 @@ pub fn report<L: Level>(heap: Global, problem: &Problem<L>) -> Result<String, Al
 {
     let mut out = String::new(heap);
     let lines = problem_lines(heap, &mut out, problem);
-    finish(heap, out, lines)
+    finish(out, lines)
+}
+
+// Reports whose values are computed over lent memory, step by step.
+pub struct Reduction;
+
+impl Reporter for Reduction {
+    fn report<L: Level>(heap: Global, problem: &Problem<L>) -> Result<String, AllocError> {
+        report(heap, problem)
+    }
 }

@@ -5,26 +5,21 @@ ghost use Rattle.multilinear.specs.Cells.{cell, standing, one_row_on, packed as 
 ghost use Rattle.multilinear.specs.Equality.{Point, multilinear};
 ghost use Rattle.ring_switch.specs.Opening.{low};
 ghost use Rattle.multilinear.specs.Lent.{lent};
-ghost use Rattle.ring_switch.specs.Batching.{closing_value};
-ghost use Rattle.ring_switch.specs.BatchingLaws.{RowsWithin};
 ghost use Rattle.ring_switch.specs.ClaimLaws.{Binary};
 ghost use Rattle.equality.specs.Tables.{Tabulated};
 ghost use Rattle.refusals.specs.Refusals.{ring_switch_refusal, refused};
-ghost use Rattle.refusals.specs.Steps.{stride, closing};
+ghost use Rattle.refusals.specs.Steps.{stride};
 ghost use Rattle.plain.specs.Openings.{named};
-ghost use Rattle.plain.specs.Steps.{steps};
 ghost use Rattle.reduction.specs.Worked.{Worked};
 ghost use Rattle.report_lines.specs.Opened.{open_refusal, values_at, values_of};
 
-use closing::closing::closing_value;
 use level::level::Level;
 use packing::pack_elements;
 use plain::opening::fixed_prefix;
-use plain::stepping::Stepping;
 use reduction::opened_claims::{incoming, low_equality, successor};
 use reduction::work::OpenedTable;
 use refusals::faults::BitRingSwitchError;
-use refusals::steps::{check_closing, check_opening, check_width};
+use refusals::steps::{check_opening, check_width};
 use report_lines::opening::Opening;
 use std::alloc::{AllocError, Global};
 
@@ -35,8 +30,7 @@ pub(crate) fn pack<L: Level>(heap: Global, bits: &[u8], count: usize) -> Result<
     ensures count { IfOk result (λ v. length v.items ≡ count) }
     ensures elements { IfOk result (λ v. (w : ℕ) → w < count → lent L.means v.items w ≡ packed_element L.Level.log (cell bits.now) w) }
 {
-    let mut packed = Vec::new(heap);
-    packed.resize(count, L::zero())?;
+    let mut packed = vec![in heap; L::zero(); count]?;
     pack_elements(bits, packed.as_mut_slice());
     Ok(packed)
 }
@@ -93,30 +87,9 @@ pub(crate) fn values<L: Level>(
     let eq_low = low_equality(heap, point)?;
     let incoming = incoming(heap, opened, eq_low.as_slice())?;
     let successor = successor_of(heap, opened, eq_low.as_slice(), view)?;
-    let (prefix, address) = fixed_prefix(point, view);
     Ok(Opening {
         incoming,
         successor,
-        prefix,
-        address,
+        prefix: fixed_prefix(point, view),
     })
-}
-
-// The closing value at a point, where it fits the slot. The scratch has three rows for each coordinate of an element.
-pub(crate) fn close<L: Level>(
-    slot: &[L],
-    eq_batch: &[L],
-    stepping: Option<Stepping<L>>,
-    z: &[L],
-    scratch: &mut [L],
-) -> Result<L, BitRingSwitchError>
-    requires narrow { L.Level.log ≤ 7 }
-    requires eq_batch { length eq_batch.now ≡ width L.Level.log }
-    requires rows { RowsWithin (steps L.means stepping) (length slot.now) }
-    requires scratch { length scratch.old ≡ 3 * width L.Level.log }
-    ensures refusal { refused ring_switch_refusal result ≡ closing (length slot.now) (length z.now) }
-    ensures value { IfOk result (λ x. L.means x ≡ closing_value L.arithmetic (lent L.means eq_batch.now) (map L.means slot.now) (steps L.means stepping) (map L.means z.now)) }
-{
-    check_closing(slot.len(), z.len())?;
-    Ok(closing_value(slot, eq_batch, stepping, z, scratch))
 }

@@ -8,7 +8,7 @@ ghost use Rattle.equality.specs.Tables.{Tabulated, Factors};
 ghost use Rattle.plain.specs.Steps.{steps};
 
 use crate::memory::zeroes;
-use crate::tables::{Factored, equality_of, reading};
+use crate::tables::{Factored, equality_of};
 use crate::work::OpenedTable;
 use closing::sums::initial_sum;
 use level::level::Level;
@@ -41,7 +41,7 @@ fn weights_of<L: Level>(
     ensures count { IfOk result (λ v. length v.items ≡ length factors.now.outer.items * length factors.now.inner.items) }
     ensures weights { IfOk result (λ v. (p : Point L.Level.log) → Factors L.means L.arithmetic L.arithmetic.unit p factors.now.outer.items factors.now.inner.items → (i : ℕ) → i < 2 ^ length p → lent L.means v.items i ≡ weight L.arithmetic (lent L.means eq_batch.now) p (steps L.means stepping) i) }
 {
-    let equality = reading(factors);
+    let equality = factors.reading();
     let mut weights = zeroes(heap, equality.num_evals())?;
     let mut scratch = zeroes(heap, scratch_len::<L>())?;
     weights_over(

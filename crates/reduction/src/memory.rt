@@ -7,7 +7,5 @@ use std::alloc::{AllocError, Global};
 pub(crate) fn zeroes<L: Level>(heap: Global, n: usize) -> Result<Vec<L>, AllocError>
     ensures { IfOk result (λ v. length v.items ≡ n) }
 {
-    let mut elements = Vec::new(heap);
-    elements.resize(n, L::zero())?;
-    Ok(elements)
+    vec![in heap; L::zero(); n]
 }

@@ -10,9 +10,9 @@ ghost use Rattle.reduction.specs.Worked.{Worked};
 use crate::memory::zeroes;
 use crate::tables::equality_of;
 use crate::work::OpenedTable;
-use basis::width::dimension;
 use claims::incoming::incoming_claim;
 use claims::successor::successor_claim;
+use coordinates::width;
 use level::level::Level;
 use std::alloc::{AllocError, Global};
 
@@ -31,8 +31,7 @@ pub fn low_equality<L: Level>(heap: Global, point: &[L]) -> Result<Vec<L>, Alloc
     ensures table { IfOk result (λ v. Tabulated L.means L.arithmetic L.arithmetic.unit (low (map L.means point.now)) v.items) }
     ensures count { IfOk result (λ v. length v.items ≡ width L.Level.log) }
 {
-    let table = equality_of(heap, low_of(point))?;
-    Ok(table)
+    equality_of(heap, low_of(point))
 }
 
 // The incoming claim of an opened table: the multilinear value of its bits at the point.
@@ -46,7 +45,7 @@ pub fn incoming<L: Level>(
     requires eq_low { length eq_low.now ≡ width L.Level.log }
     ensures { IfOk result (λ x. (p : Point L.Level.log) (view : View) (bits : ℕ → ℕ) → Binary bits → L.Level.log ≤ length p → Tabulated L.means L.arithmetic L.arithmetic.unit (low p) eq_low.now → Worked L.means L.arithmetic p view bits opened.now → L.means x ≡ multilinear L.arithmetic (λ c. standing L.arithmetic (bits c)) p) }
 {
-    let mut columns = zeroes(heap, dimension::<L>())?;
+    let mut columns = zeroes(heap, width::<L>())?;
     Ok(incoming_claim(opened.tensor.as_slice(), eq_low, columns.as_mut_slice()))
 }
 
@@ -65,8 +64,8 @@ pub fn successor<L: Level>(
     requires eq_low { length eq_low.now ≡ width L.Level.log }
     ensures { IfOk result (λ x. (p : Point L.Level.log) (bits : ℕ → ℕ) → Binary bits → L.Level.log ≤ length p → q ≤ length p → Tabulated L.means L.arithmetic L.arithmetic.unit (low p) eq_low.now → Worked L.means L.arithmetic p (Some q) bits opened.now → L.means x ≡ multilinear L.arithmetic (λ c. standing L.arithmetic (one_row_on q bits c)) p) }
 {
-    let mut columns = zeroes(heap, dimension::<L>())?;
-    let mut weights = zeroes(heap, dimension::<L>())?;
+    let mut columns = zeroes(heap, width::<L>())?;
+    let mut weights = zeroes(heap, width::<L>())?;
     let tensor = opened.tensor.as_slice();
     let carry = opened.carry.as_slice();
     let last = opened.last.as_slice();

@@ -44,13 +44,15 @@ pub(crate) fn factors_of<L: Level>(heap: Global, point: &[L]) -> Result<Factored
     Ok(Factored { outer, inner })
 }
 
-// The factors, to be read.
-pub(crate) fn reading<L: Level>(factors: &Factored<L>) -> FactoredEquality<'_, L>
-    ensures outer { result.outer.now ≡ factors.now.outer.items }
-    ensures inner { result.inner.now ≡ factors.now.inner.items }
-{
-    FactoredEquality {
-        outer: factors.outer.as_slice(),
-        inner: factors.inner.as_slice(),
+impl<L: Level> Factored<L> {
+    // The factors, to be read.
+    pub(crate) fn reading(&self) -> FactoredEquality<'_, L>
+        ensures outer { result.outer.now ≡ self.now.outer.items }
+        ensures inner { result.inner.now ≡ self.now.inner.items }
+    {
+        FactoredEquality {
+            outer: self.outer.as_slice(),
+            inner: self.inner.as_slice(),
+        }
     }
 }

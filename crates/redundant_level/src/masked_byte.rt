@@ -1,4 +1,4 @@
-ghost use Rattle.std.specs.Prelude.{◌≡◌, ◌∷◌, T, get_or, replicate};
+ghost use Rattle.std.specs.Prelude.{◌≡◌, T};
 ghost use Rattle.std.specs.Int.Bits.{bit_and, bit_xor};
 ghost use Rattle.level.specs.Element.{cut};
 ghost use Rattle.redundant_level.specs.Coordinatewise.{coordinatewise};
@@ -10,7 +10,7 @@ use level::level::Level;
 const MASK: u8 = 0x5a;
 
 // Eight coordinates, held as two shares: their exclusive-or is the byte of the coordinates.
-#[derive(Clone, Copy)]
+#[derive(Clone, Copy, Debug)]
 pub struct MaskedByte {
     pub share: u8,
     pub mask: u8,
@@ -74,11 +74,11 @@ impl Level for MaskedByte {
     }
 
     fn to_bytes(self) -> [u8; 16] {
-        first_of_sixteen(self.byte())
+        u128::from(self.byte()).to_le_bytes()
     }
 
     fn from_bytes(bytes: [u8; 16]) -> Self {
-        MaskedByte::new(first_byte(bytes), MASK)
+        MaskedByte::new(bytes[0], MASK)
     }
 }
 
@@ -114,16 +114,4 @@ fn same_byte(x: MaskedByte, y: MaskedByte) -> bool
     ensures found { bit_xor x.share x.mask ≡ bit_xor y.share y.mask → T result }
 {
     x.byte() == y.byte()
-}
-
-fn first_of_sixteen(byte: u8) -> [u8; 16]
-    ensures { result ≡ byte ∷ replicate 15 0 }
-{
-    [byte, 0, 0, 0, 0, 0, 0, 0, 0, 0, 0, 0, 0, 0, 0, 0]
-}
-
-fn first_byte(bytes: [u8; 16]) -> u8
-    ensures { result ≡ get_or bytes 0 0 }
-{
-    bytes[0]
 }

@@ -1,16 +1,9 @@
 -- A number with exactly one binary digit 1 is a power of two.
 use Rattle.std.proofs.Common.{◌≡◌, ℕ, zero, suc, ◌+◌, ◌*◌, ◌/◌, ◌%◌, ◌^◌, ◌≤◌, ◌⊎◌, ap, ◌∙◌, inl, inr, pow-suc, arith, pow_pos}
 use lib.Count.{ones, ones_in, ones_step, ones_cat}
+use Rattle.std.proofs.lemmas.Nat.{zero_from_ones}
 use Rattle.std.proofs.lemmas.Bool.{cases_eq, eqb-true, eq-eqb}
 use Rattle.refusals.specs.Steps.{PowersOfTwo}
-
--- by recursion on a bound d of the number
-no_ones : (d n : ℕ) → n ≤ d → ones n ≡ 0 → n ≡ 0
-no_ones zero n h e = omega arith
-no_ones (suc d) n h e =
-    let s = ones_step n in
-    let half : n / 2 ≡ 0 = no_ones d (n / 2) (omega arith) (omega arith) in
-    omega arith
 
 abbrev Power : ℕ → Type 0
 Power n = (e : ℕ) × (n ≡ 2 ^ e)
@@ -19,7 +12,7 @@ Power n = (e : ℕ) × (n ≡ 2 ^ e)
 lowest : (n : ℕ) → ones n ≡ 1 → (ones (n / 2) ≡ 1 → Power (n / 2)) → (n % 2 ≡ 1) ⊎ (n % 2 ≡ 1 → ⊥) → Power n
 lowest n e next (inl odd) =
     let s = ones_step n in
-    let none : n / 2 ≡ 0 = no_ones (n / 2) (n / 2) (omega arith) (omega arith) in
+    let none : n / 2 ≡ 0 = zero_from_ones (n / 2) (omega arith) in
     (0, omega arith)
 lowest n e next (inr even) =
     let s = ones_step n in

@@ -4,6 +4,8 @@ use Rattle.refusals.specs.declared.faults.BitPackingError.{BitPackingError}
 use Rattle.refusals.specs.declared.faults.BitPackingError.TheVariants.{LevelTooWide, SubByteLevel, NotAHypercube, TooShort}
 use Rattle.refusals.specs.declared.faults.BitRingSwitchError.{BitRingSwitchError}
 use Rattle.refusals.specs.declared.faults.BitRingSwitchError.TheVariants.{RowVariables, PointTooNarrow, WidthMismatch, SuccessorBatching, BatchWidthMismatch, NoSuccessorView, WeightIndex, ClosingWidth}
+use Rattle.refusals.specs.declared.faults.StepRefusal.{StepRefusal}
+use Rattle.refusals.specs.declared.faults.StepRefusal.TheVariants.{Packing, RingSwitch}
 
 pub record Refusal : Type 0 where
   pub number : ℕ
@@ -28,6 +30,10 @@ ring_switch_refusal (BatchWidthMismatch expected actual) = with 18 (expected ∷
 ring_switch_refusal NoSuccessorView = with 19 []
 ring_switch_refusal (WeightIndex count index) = with 20 (count ∷ index ∷ [])
 ring_switch_refusal (ClosingWidth expected actual) = with 21 (expected ∷ actual ∷ [])
+
+abbrev pub refusal_of : StepRefusal → Refusal
+refusal_of (Packing fault) = packing_refusal fault
+refusal_of (RingSwitch fault) = ring_switch_refusal fault
 
 -- the refusal that a result tells of, none where there is an answer
 abbrev pub refused : {X E : Type 0} → (E → Refusal) → Result X E → Option Refusal

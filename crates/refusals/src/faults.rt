@@ -1,8 +1,9 @@
 ghost use Rattle.std.specs.Prelude.{◌≡◌};
-ghost use Rattle.refusals.specs.Refusals.{packing_refusal, ring_switch_refusal};
+ghost use Rattle.refusals.specs.Refusals.{packing_refusal, ring_switch_refusal, refusal_of};
+ghost use Rattle.refusals.specs.declared.faults.StepRefusal.TheVariants.{Packing, RingSwitch};
 
 // Why bytes are not packed.
-#[derive(Clone, Copy)]
+#[derive(Clone, Copy, Debug, PartialEq, Eq)]
 pub enum BitPackingError {
     // The level has more than 128 coordinates.
     LevelTooWide,
@@ -15,7 +16,7 @@ pub enum BitPackingError {
 }
 
 // Why a reduction is not set up, or a step of it not taken.
-#[derive(Clone, Copy)]
+#[derive(Clone, Copy, Debug, PartialEq, Eq)]
 pub enum BitRingSwitchError {
     // The view names more row variables than the point has coordinates.
     RowVariables {
@@ -55,8 +56,15 @@ pub enum BitRingSwitchError {
     },
 }
 
+// Why a step is refused, whichever step it is.
+#[derive(Clone, Copy, Debug, PartialEq, Eq)]
+pub enum StepRefusal {
+    Packing(BitPackingError),
+    RingSwitch(BitRingSwitchError),
+}
+
 impl BitPackingError {
-    // The number that stands for the fault.
+    // The number that stands for the fault where it is reported: a report tells a refusal by number.
     pub fn number(self) -> u8
         ensures { result ≡ (packing_refusal self).number }
     {
@@ -70,7 +78,7 @@ impl BitPackingError {
 }
 
 impl BitRingSwitchError {
-    // The number that stands for the fault.
+    // The number that stands for the fault where it is reported: a report tells a refusal by number.
     pub fn number(self) -> u8
         ensures { result ≡ (ring_switch_refusal self).number }
     {
@@ -84,5 +92,33 @@ impl BitRingSwitchError {
             BitRingSwitchError::WeightIndex { .. } => 20,
             BitRingSwitchError::ClosingWidth { .. } => 21,
         }
+    }
+}
+
+impl StepRefusal {
+    // The number that stands for the fault.
+    pub fn number(self) -> u8
+        ensures { result ≡ (refusal_of self).number }
+    {
+        match self {
+            StepRefusal::Packing(fault) => fault.number(),
+            StepRefusal::RingSwitch(fault) => fault.number(),
+        }
+    }
+}
+
+impl From<BitPackingError> for StepRefusal {
+    ghost from_gives = { λ error r. r ≡ Packing error };
+
+    fn from(error: BitPackingError) -> StepRefusal {
+        StepRefusal::Packing(error)
+    }
+}
+
+impl From<BitRingSwitchError> for StepRefusal {
+    ghost from_gives = { λ error r. r ≡ RingSwitch error };
+
+    fn from(error: BitRingSwitchError) -> StepRefusal {
+        StepRefusal::RingSwitch(error)
     }
 }

@@ -5,22 +5,15 @@ ghost use Rattle.refusals.specs.Steps.{told, PowersOfTwo, packing, opening, widt
 use crate::faults::{BitPackingError, BitRingSwitchError};
 use level::level::Level;
 
-// 2^exponent.
-fn two_to(exponent: u8) -> usize
-    requires { exponent < 8 }
-    ensures { result ≡ 2 ^ exponent }
+// Whether so many bytes can be packed.
+pub fn check_packing<L: Level>(len: usize) -> Result<(), BitPackingError>
+    ensures { refused packing_refusal result ≡ packing (told L.Level.log) len }
 {
-    1 << exponent
-}
-
-// The test of a packing at a told log width.
-fn packing_at(log_width: u8, len: usize) -> Result<(), BitPackingError>
-    ensures { refused packing_refusal result ≡ packing log_width len }
-{
+    let log_width = L::log_width();
     if log_width > 7 {
         return Err(BitPackingError::LevelTooWide);
     }
-    let bits = two_to(log_width);
+    let bits = 1 << log_width;
     if bits < 8 {
         return Err(BitPackingError::SubByteLevel { bits });
     }
@@ -39,20 +32,12 @@ fn packing_at(log_width: u8, len: usize) -> Result<(), BitPackingError>
     Ok(())
 }
 
-// Whether so many bytes can be packed.
-pub fn check_packing<L: Level>(len: usize) -> Result<(), BitPackingError>
-    ensures { refused packing_refusal result ≡ packing (told L.Level.log) len }
-{
-    packing_at(L::log_width(), len)
-}
-
-// The test of an opening at a told log width.
-fn opening_at(
-    log_width: u8,
+// Whether a reduction can be opened at a point of so many coordinates, with a view of so many row variables or without one.
+pub fn check_opening<L: Level>(
     num_variables: usize,
     view: Option<usize>,
 ) -> Result<(), BitRingSwitchError>
-    ensures { refused ring_switch_refusal result ≡ opening log_width num_variables view }
+    ensures { refused ring_switch_refusal result ≡ opening (told L.Level.log) num_variables view }
 {
     if let Some(row_variables) = view {
         if row_variables > num_variables {
@@ -62,7 +47,7 @@ fn opening_at(
             });
         }
     }
-    let needed = usize::from(log_width);
+    let needed = usize::from(L::log_width());
     if num_variables < needed {
         return Err(BitRingSwitchError::PointTooNarrow {
             needed,
@@ -72,41 +57,12 @@ fn opening_at(
     Ok(())
 }
 
-// Whether a reduction can be opened at a point of so many coordinates, with a view of so many row variables or without one.
-pub fn check_opening<L: Level>(
-    num_variables: usize,
-    view: Option<usize>,
-) -> Result<(), BitRingSwitchError>
-    ensures { refused ring_switch_refusal result ≡ opening (told L.Level.log) num_variables view }
-{
-    opening_at(L::log_width(), num_variables, view)
-}
-
 // Whether a packing is over the variables that the reduction runs over.
 pub fn check_width(expected: usize, actual: usize) -> Result<(), BitRingSwitchError>
     ensures { refused ring_switch_refusal result ≡ width expected actual }
 {
     if actual != expected {
         return Err(BitRingSwitchError::WidthMismatch { expected, actual });
-    }
-    Ok(())
-}
-
-// The test of a batching at a told log width.
-fn batching_at(
-    log_width: u8,
-    sent: bool,
-    challenged: bool,
-    actual: usize,
-) -> Result<(), BitRingSwitchError>
-    ensures { refused ring_switch_refusal result ≡ batching log_width sent challenged actual }
-{
-    if sent != challenged {
-        return Err(BitRingSwitchError::SuccessorBatching { expected: sent });
-    }
-    let expected = usize::from(log_width);
-    if actual != expected {
-        return Err(BitRingSwitchError::BatchWidthMismatch { expected, actual });
     }
     Ok(())
 }
@@ -120,7 +76,14 @@ pub fn check_batching<L: Level>(
 ) -> Result<(), BitRingSwitchError>
     ensures { refused ring_switch_refusal result ≡ batching (told L.Level.log) sent challenged actual }
 {
-    batching_at(L::log_width(), sent, challenged, actual)
+    if sent != challenged {
+        return Err(BitRingSwitchError::SuccessorBatching { expected: sent });
+    }
+    let expected = usize::from(L::log_width());
+    if actual != expected {
+        return Err(BitRingSwitchError::BatchWidthMismatch { expected, actual });
+    }
+    Ok(())
 }
 
 // Whether a successor claim can be asked for.
@@ -144,6 +107,7 @@ pub fn check_weight(count: usize, index: usize) -> Result<(), BitRingSwitchError
 }
 
 // Whether a closing point has a coordinate for each of the slot's.
+// The same test as that of a packing's variables: handing the error to one function shared by both is longer than the test.
 pub fn check_closing(expected: usize, actual: usize) -> Result<(), BitRingSwitchError>
     ensures { refused ring_switch_refusal result ≡ closing expected actual }
 {
@@ -163,42 +127,39 @@ pub fn powers_of_two_stand() -> u8
 #[cfg(test)]
 mod tests {
     use super::*;
+    use doubling::bit::Bit;
+    use doubling::doubling::Doubling;
+
+    // The level of log width 3 over the bit.
+    type Eight = Doubling<Doubling<Doubling<Bit>>>;
 
     #[test]
     fn no_bytes(rt: HostRuntime) {
-        assert!(rt;
-            matches!(
-                packing_at(3, 0),
-                Err(BitPackingError::NotAHypercube { cells: 0 })
-            )
+        assert_eq!(rt;
+            check_packing::<Eight>(0),
+            Err(BitPackingError::NotAHypercube { cells: 0 })
         );
-        assert!(rt;
-            matches!(
-                packing_at(0, 0),
-                Err(BitPackingError::SubByteLevel { bits: 1 })
-            )
+        assert_eq!(rt;
+            check_packing::<Bit>(0),
+            Err(BitPackingError::SubByteLevel { bits: 1 })
         );
     }
 
     #[test]
     fn two_coordinates(rt: HostRuntime) {
-        assert!(rt;
-            matches!(
-                opening_at(3, 2, Some(3)),
-                Err(BitRingSwitchError::RowVariables {
-                    row_variables: 3,
-                    num_variables: 2
-                })
-            )
+        assert_eq!(rt;
+            check_opening::<Eight>(2, Some(3)),
+            Err(BitRingSwitchError::RowVariables {
+                row_variables: 3,
+                num_variables: 2
+            })
         );
-        assert!(rt;
-            matches!(
-                opening_at(3, 2, Some(2)),
-                Err(BitRingSwitchError::PointTooNarrow {
-                    needed: 3,
-                    actual: 2
-                })
-            )
+        assert_eq!(rt;
+            check_opening::<Eight>(2, Some(2)),
+            Err(BitRingSwitchError::PointTooNarrow {
+                needed: 3,
+                actual: 2
+            })
         );
     }
 }

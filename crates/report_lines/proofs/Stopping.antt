@@ -1,11 +1,14 @@
 -- The text that a refusal stops.
-use Rattle.std.proofs.Common.{◌≡◌, ℕ, ◌+◌, ◌<◌, ◌≤◌, List, [], ◌∷◌, ◌++◌, length, get_or, drop, Some, None, codes, Option, sym, ap, ◌∙◌}
+use Rattle.std.proofs.Common.{◌≡◌, ℕ, ◌+◌, ◌<◌, ◌≤◌, List, [], ◌∷◌, ◌++◌, map, length, get_or, drop, Some, None, vec_items, codes, Option, Vec, sym, ap, ◌∙◌, arith}
+use lib.ListN.{length-map}
+use Rattle.std.specs.declared.alloc.Global.{Global}
 use Rattle.std.proofs.lemmas.List.{append_assoc, append-nil, at_drop_more, at_drop_all}
 use Rattle.level.specs.Element.{Element}
 use Rattle.level.specs.Laws.{Arithmetic}
 use Rattle.element_text.specs.Hex.{element_text}
 use Rattle.multilinear.specs.Equality.{Point, equality}
 use Rattle.ring_switch.specs.Batching.{closing_value}
+use Rattle.plain.proofs.Means.{means_at}
 use Rattle.refusals.specs.Refusals.{Refusal}
 use Rattle.refusals.specs.Steps.{closing}
 use Rattle.report_lines.specs.Lines.{line}
@@ -18,25 +21,43 @@ refused_text o r text e = ap (λ o. unless o text) e
 
 -- the closing points from place i on, where those before have been answered
 module _ {k : ℕ} (A : Arithmetic k) (b : Batching k) (zs : List (Point k)) (total a : List ℕ) (i : ℕ) (inv : total ≡ a ++ closing_text A b (drop i zs)) where
-  module _ (z : Point k) (n : ℕ) (h : i < length zs) (read : z ≡ get_or zs i []) (len : n ≡ length z) where
-    next : total ≡ a ++ unless (closing (length b.slot) n) (closing_line A b z ++ closing_text A b (drop (i + 1) zs))
-    unfolding closing_text
-    next =
-        inv ∙ ap (λ t. a ++ t) (at_drop_more (closing_text A b) zs i [] h)
-        ∙ ap (λ p. a ++ closing_text A b (p ∷ drop (i + 1) zs)) (sym read)
-        ∙ ap (λ m. a ++ unless (closing (length b.slot) m) (closing_line A b z ++ closing_text A b (drop (i + 1) zs))) (sym len)
-
-    pub closing_refused : (r : Refusal) → Some r ≡ closing (length b.slot) n → a ++ refusal_line r.number ≡ total
-    closing_refused r e = ap (λ t. a ++ t) (refused_text _ r _ e) ∙ sym next
-
-    pub closing_more : (x : Element k) (c : List ℕ) → None ≡ closing (length b.slot) n → x ≡ closing_value A (equality A b.batching) b.slot b.stepping z
-        → c ≡ a ++ line (codes "closing") (element_text x) → total ≡ c ++ closing_text A b (drop (i + 1) zs)
-    closing_more x c e v w =
-        next ∙ ap (λ o. a ++ unless o (closing_line A b z ++ closing_text A b (drop (i + 1) zs))) (sym e)
-        ∙ sym (append_assoc a (closing_line A b z) (closing_text A b (drop (i + 1) zs)))
-        ∙ ap (λ y. (a ++ line (codes "closing") (element_text y)) ++ closing_text A b (drop (i + 1) zs)) (sym v)
-        ∙ ap (λ t. t ++ closing_text A b (drop (i + 1) zs)) (sym w)
-
-  pub closing_all : length zs ≤ i → a ≡ total
+  next : (z : Point k) (n : ℕ) → i < length zs → z ≡ get_or zs i [] → n ≡ length z
+      → total ≡ a ++ unless (closing (length b.slot) n) (closing_line A b z ++ closing_text A b (drop (i + 1) zs))
   unfolding closing_text
-  closing_all h = sym (inv ∙ ap (λ t. a ++ t) (at_drop_all (closing_text A b) zs i h) ∙ append-nil a)
+  next z n h read len =
+      inv ∙ ap (λ t. a ++ t) (at_drop_more (closing_text A b) zs i [] h)
+      ∙ ap (λ p. a ++ closing_text A b (p ∷ drop (i + 1) zs)) (sym read)
+      ∙ ap (λ m. a ++ unless (closing (length b.slot) m) (closing_line A b z ++ closing_text A b (drop (i + 1) zs))) (sym len)
+
+  all : length zs ≤ i → a ≡ total
+  unfolding closing_text
+  all h = sym (inv ∙ ap (λ t. a ++ t) (at_drop_all (closing_text A b) zs i h) ∙ append-nil a)
+
+-- the same for points that are vectors of elements, closed at a slot
+module _ {X : Type 0} {k : ℕ} (means : X → Element k) (A : Arithmetic k) (b : Batching k) (vs : List (Vec X Global)) (total a : List ℕ) (i : ℕ) where
+  abbrev points : Vec X Global → Point k
+  points v = map means (vec_items v)
+
+  module _ (inv : total ≡ a ++ closing_text A b (drop i (map points vs))) where
+    module _ (v : Vec X Global) (h : i < length vs) (is : v ≡ get_or vs i v) (z : List X) (z_is : z ≡ vec_items v) (slot : List X) (slot_is : b.slot ≡ map means slot) where
+      here : total ≡ a ++ unless (closing (length slot) (length z)) (closing_line A b (points v) ++ closing_text A b (drop (i + 1) (map points vs)))
+      here =
+          next A b (map points vs) total a i inv (points v) (length z) (omega (arith, length-map vs points, h)) (means_at points vs i v [] h is)
+          (ap length z_is ∙ sym (length-map (vec_items v) means))
+          ∙ ap (λ n. a ++ unless (closing n (length z)) (closing_line A b (points v) ++ closing_text A b (drop (i + 1) (map points vs))))
+          (ap length slot_is ∙ length-map slot means)
+
+      pub closing_refused : (r : Refusal) → Some r ≡ closing (length slot) (length z) → a ++ refusal_line r.number ≡ total
+      closing_refused r e = ap (λ t. a ++ t) (refused_text _ r _ e) ∙ sym here
+
+      pub closing_more : (x : Element k) (c : List ℕ) → None ≡ closing (length slot) (length z) → x ≡ closing_value A (equality A b.batching) b.slot b.stepping (map means z)
+          → c ≡ a ++ line (codes "closing") (element_text x) → total ≡ c ++ closing_text A b (drop (i + 1) (map points vs))
+      closing_more x c e value w =
+          here ∙ ap (λ o. a ++ unless o (closing_line A b (points v) ++ closing_text A b (drop (i + 1) (map points vs)))) (sym e)
+          ∙ sym (append_assoc a (closing_line A b (points v)) (closing_text A b (drop (i + 1) (map points vs))))
+          ∙ ap (λ y. (a ++ line (codes "closing") (element_text y)) ++ closing_text A b (drop (i + 1) (map points vs)))
+          (sym (value ∙ ap (λ l. closing_value A (equality A b.batching) b.slot b.stepping (map means l)) z_is))
+          ∙ ap (λ t. t ++ closing_text A b (drop (i + 1) (map points vs))) (sym w)
+
+    pub closing_all : length vs ≤ i → a ≡ total
+    closing_all h = all A b (map points vs) total a i inv (omega (arith, length-map vs points, h))

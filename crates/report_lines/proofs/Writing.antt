@@ -1,14 +1,10 @@
 -- Texts that are written one after the other.
-use Rattle.std.proofs.Common.{◌≡◌, ℕ, zero, suc, ◌+◌, ◌<◌, ◌≤◌, List, ◌++◌, sym, refl, ap, ◌∙◌, ap₂, add-one, arith}
+use Rattle.std.proofs.Common.{◌≡◌, ℕ, zero, suc, ◌+◌, ◌<◌, List, ◌++◌, sym, refl, ap, ◌∙◌, ap₂, add-one, arith}
 use Rattle.std.proofs.lemmas.List.{append_assoc, append-nil}
 use Rattle.report_lines.specs.Report.{lines_below}
 
 pub joined : (a b c x y : List ℕ) → b ≡ a ++ x → c ≡ b ++ y → c ≡ a ++ (x ++ y)
 joined a b c x y e f = f ∙ ap (λ t. t ++ y) e ∙ append_assoc a x y
-
--- two texts, and then two more
-pub two_and_two : (a b c w x y z : List ℕ) → b ≡ (a ++ w) ++ x → c ≡ (b ++ y) ++ z → c ≡ a ++ (w ++ (x ++ (y ++ z)))
-two_and_two a b c w x y z e f = f ∙ ap (λ t. (t ++ y) ++ z) e ∙ simp append_assoc
 
 -- the lines of 0, 1, .. n - 1
 module _ (f : ℕ → List ℕ) (a : List ℕ) where
@@ -20,9 +16,6 @@ module _ (f : ℕ → List ℕ) (a : List ℕ) where
   unfolding lines_below
   below_more b c l i e g h =
       joined a b c (lines_below i f) (f i) e (g ∙ ap (λ t. b ++ t) h) ∙ ap (λ n. a ++ lines_below n f) (sym (add-one i))
-
-  pub below_all : (b : List ℕ) (i n : ℕ) → i ≤ n → n ≤ i → b ≡ a ++ lines_below i f → b ≡ a ++ lines_below n f
-  below_all b i n h l e = let s : i ≡ n = omega arith in e ∙ ap (λ m. a ++ lines_below m f) s
 
 pub below_same : (n : ℕ) (f g : ℕ → List ℕ) → ((i : ℕ) → i < n → f i ≡ g i) → lines_below n f ≡ lines_below n g
 unfolding lines_below

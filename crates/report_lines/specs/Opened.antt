@@ -38,5 +38,5 @@ abbrev pub values_of : {X : Type 0} {k : ℕ} → (X → Element k) → Opening 
 values_of means o = record {
   incoming = means o.incoming;
   successor = option_map means o.successor;
-  prefix = record { count = o.prefix; address = o.address };
+  prefix = record { count = o.prefix.count; address = o.prefix.address };
 }

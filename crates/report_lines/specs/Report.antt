@@ -6,7 +6,7 @@ use Rattle.element_text.specs.Hex.{byte_count, element_text}
 use Rattle.multilinear.specs.Cells.{cell, packed}
 use Rattle.multilinear.specs.Equality.{Point, equality}
 use Rattle.ring_switch.specs.Batching.{weight, closing_value}
-use Rattle.refusals.specs.Refusals.{Refusal}
+use Rattle.refusals.specs.Refusals.{Refusal, refusal_of}
 use Rattle.refusals.specs.Steps as step
 use Rattle.problem.specs.Task.{Task}
 use Rattle.report_lines.specs.Lines.{line, optional_text}
@@ -72,7 +72,7 @@ report_text {k} A t =
 
 -- what is written so far is the whole text but for the line of the refusal that stops it
 abbrev pub Stopped : Stop → List ℕ → List ℕ → Type 0
-Stopped (Refused number) written text = written ++ refusal_line number ≡ text
+Stopped (Refused refusal) written text = written ++ refusal_line (refusal_of refusal).number ≡ text
 Stopped Memory written text = Unit {0}
 
 -- the whole text is written, or all of it before the line of a refusal

@@ -5,6 +5,7 @@
 pub mod finish;
 pub mod lines;
 pub mod opening;
+pub mod shown;
 pub mod stepping;
 pub mod stop;
 pub mod variables;

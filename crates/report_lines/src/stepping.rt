@@ -10,8 +10,8 @@ use plain::stepping::Stepping;
 pub fn stepping_of<L: Level>(rows: Option<usize>, challenge: Option<L>) -> Option<Stepping<L>>
     ensures { steps L.means result ≡ stepped rows (option_map L.means challenge) }
 {
-    match (rows, challenge) {
-        (Some(rows), Some(challenge)) => Some(Stepping { rows, challenge }),
-        _ => None,
-    }
+    Some(Stepping {
+        rows: rows?,
+        challenge: challenge?,
+    })
 }

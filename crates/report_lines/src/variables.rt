@@ -1,5 +1,4 @@
-ghost use Rattle.std.specs.Prelude.{◌≡◌, ◌/◌, length, IfOk};
-ghost use Rattle.element_text.specs.Hex.{byte_count};
+ghost use Rattle.std.specs.Prelude.{◌≡◌, length, IfOk};
 ghost use Rattle.refusals.specs.Refusals.{packing_refusal, refused};
 ghost use Rattle.refusals.specs.Steps.{told, packing};
 ghost use Rattle.report_lines.specs.Packing.{Packs};
@@ -9,18 +8,12 @@ use level::level::Level;
 use refusals::faults::BitPackingError;
 use refusals::steps::check_packing;
 
-// How many packed elements so many bytes are.
-fn packed_elements<L: Level>(bytes: usize) -> usize
-    ensures { result ≡ bytes / byte_count L.Level.log }
-{
-    bytes / byte_count::<L>()
-}
-
 // The log of how many packed elements the bytes hold.
 pub fn packed_variables<L: Level>(bits: &[u8]) -> Result<usize, BitPackingError>
     ensures refusal { refused packing_refusal result ≡ packing (told L.Level.log) (length bits.now) }
     ensures packs { IfOk result (Packs L.Level.log (length bits.now)) }
 {
     check_packing::<L>(bits.len())?;
-    Ok(packed_elements::<L>(bits.len()).ilog2() as usize)
+    let elements = bits.len() / byte_count::<L>();
+    Ok(elements.ilog2() as usize)
 }

@@ -1,8 +1,10 @@
 -- Tensors of two points, folded over their coordinates.
-use Rattle.std.proofs.Common.{◌≡◌, ℕ, ◌+◌, ◌-◌, ◌^◌, ◌<◌, ◌≤◌, List, [], ◌∷◌, map, length, get_or, drop, sym, refl, ap, ◌∙◌, ap₂, arith}
+use Rattle.std.proofs.Common.{◌≡◌, ℕ, ◌+◌, ◌-◌, ◌^◌, ◌<◌, ◌≤◌, List, [], ◌∷◌, map, length, get_or, drop, reverse, sym, refl, ap, ◌∙◌, ap₂, arith}
 use mathlib.Core.Path.{fun_ext}
 use lib.ListN.{length-map}
-use Rattle.std.proofs.lemmas.List.{drop_all, drop_more}
+use Rattle.std.proofs.lemmas.List.{drop_all, drop_more, length-reverse, get_or-reverse}
+use Rattle.std.proofs.lemmas.Slice.Zip.{length-zip, get_or-zip}
+use Rattle.std.specs.List.{zip}
 use Rattle.level.specs.Element.{Element, plus, zeros}
 use Rattle.level.specs.Laws.{Arithmetic, Laws}
 use Rattle.level.proofs.Elements.{zeros_plus}
@@ -37,6 +39,20 @@ module _ {k : ℕ} {A : Arithmetic k} (laws : Laws A) where
       made ∙ ap (equality_factors A (map means xs) (map means ys)) first
       ∙ element_of_factors (map means xs) (map means ys) (length-map ys means ∙ e ∙ sym (length-map xs means))
 
+-- the coordinates of two points, read from the last on
+pub from_last : {X : Type 0} (xs ys : List X) (n : ℕ) (x y : X) → length ys ≡ length xs → n < length (zip (reverse xs) (reverse ys))
+    → (x, y) ≡ get_or (zip (reverse xs) (reverse ys)) n (x, y)
+    → (n < length xs) × (x ≡ get_or xs (length xs - n - 1) x) × (y ≡ get_or ys (length xs - n - 1) y)
+from_last xs ys n x y same h read =
+    let inside : n < length xs = omega (arith, length-zip (reverse xs) (reverse ys), length-reverse xs, length-reverse ys) in
+    let place : length xs - 1 - n ≡ length xs - n - 1 = omega arith in
+    let other : length ys - 1 - n ≡ length xs - n - 1 = omega arith in
+    let pair = read ∙ get_or-zip (reverse xs) (reverse ys) n (x, y) (omega (arith, length-reverse xs)) (omega (arith, length-reverse ys)) in (
+      inside,
+      ap (λ p. p.0) pair ∙ get_or-reverse xs n x inside ∙ ap (λ i. get_or xs i x) place,
+      ap (λ p. p.1) pair ∙ get_or-reverse ys n y (omega arith) ∙ ap (λ i. get_or ys i y) other,
+    )
+
 module _ {X : Type 0} {k : ℕ} (means : X → Element k) where
   -- what is left of a point begins with the coordinate that is read
   pub left : (xs : List X) (i : ℕ) (x : X) → i < length xs → x ≡ get_or xs i x → drop i (map means xs) ≡ means x ∷ drop (i + 1) (map means xs)
@@ -55,11 +71,11 @@ module _ {X : Type 0} {k : ℕ} (means : X → Element k) where
     unfolding factors_from
     factors_none t = refl
 
-    pub factors_more : (t s r : Tensor k) (i : ℕ) (x y : X) → i < length xs → i < length ys → x ≡ get_or xs i x → y ≡ get_or ys i y
-        → s ≡ equality_factor A (means x) (means y) t → factors_from i t ≡ r → factors_from (i + 1) s ≡ r
+    pub factors_more : (t s r : Tensor k) (i j : ℕ) (x y : X) → i < length xs → i < length ys → x ≡ get_or xs i x → y ≡ get_or ys i y
+        → j ≡ i + 1 → s ≡ equality_factor A (means x) (means y) t → factors_from i t ≡ r → factors_from j s ≡ r
     unfolding factors_from equality_factors
-    factors_more t s r i x y h l first second made e =
-        ap (factors_from (i + 1)) made ∙ sym (ap₂ (λ p q. equality_factors A p q t) (left xs i x h first) (left ys i y l second)) ∙ e
+    factors_more t s r i j x y h l first second more made e =
+        ap₂ factors_from more made ∙ sym (ap₂ (λ p q. equality_factors A p q t) (left xs i x h first) (left ys i y l second)) ∙ e
 
     pub factors_all : (t r : Tensor k) (i : ℕ) → length xs ≤ i → factors_from i t ≡ r → t ≡ r
     unfolding factors_from equality_factors
@@ -81,18 +97,18 @@ module _ {X : Type 0} {k : ℕ} (means : X → Element k) where
           second = one-second ∙ sym (ap (λ r. product A (map (plus A.unit) r)) q);
         }
 
-    pub folded_more : (i : ℕ) (t s : Tensor k) (a b a' b' : Element k) (x y : X) → 0 < i → i ≤ length xs → length ys ≡ length xs
+    pub folded_more : (i j : ℕ) (t s : Tensor k) (a b a' b' : Element k) (x y : X) → j ≡ i - 1 → 0 < i → i ≤ length xs → length ys ≡ length xs
         → x ≡ get_or xs (i - 1) x → y ≡ get_or ys (i - 1) y
         → s ≡ add (equality_factor A (means x) (means y) t) (exterior (A.times a (plus A.unit (means x))) (A.times b (means y)))
         → a' ≡ A.times (means x) a → b' ≡ A.times (plus A.unit (means y)) b
-        → Folded i t a b → Folded (i - 1) s a' b'
+        → Folded i t a b → Folded j s a' b'
     unfolding successor_element product
-    folded_more i t s a b a' b' x y pos h same first second made carried passed f =
+    folded_more i j t s a b a' b' x y before pos h same first second made carried passed f =
         let e : i - 1 + 1 ≡ i = omega arith in
-        let p : drop (i - 1) (map means xs) ≡ means x ∷ drop i (map means xs) =
-        left xs (i - 1) x (omega arith) first ∙ ap (λ j. means x ∷ drop j (map means xs)) e in
-        let q : drop (i - 1) (map means ys) ≡ means y ∷ drop i (map means ys) =
-        left ys (i - 1) y (omega arith) second ∙ ap (λ j. means y ∷ drop j (map means ys)) e in
+        let p : drop j (map means xs) ≡ means x ∷ drop i (map means xs) =
+        ap (λ n. drop n (map means xs)) before ∙ left xs (i - 1) x (omega arith) first ∙ ap (λ j. means x ∷ drop j (map means xs)) e in
+        let q : drop j (map means ys) ≡ means y ∷ drop i (map means ys) =
+        ap (λ n. drop n (map means ys)) before ∙ left ys (i - 1) y (omega arith) second ∙ ap (λ j. means y ∷ drop j (map means ys)) e in
         record {
           element = made
               ∙ ap (λ r. add (equality_factor A (means x) (means y) r) (exterior (A.times a (plus A.unit (means x))) (A.times b (means y)))) f.element

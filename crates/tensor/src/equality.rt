@@ -17,8 +17,8 @@ pub fn equality_factors<L: Level>(rows: &mut [L], point: &[L], other: &[L], scra
     ensures scratch { lent L.means scratch.new ≡ nothing }
 {
     clear(scratch);
-    for i in 0..point.len() {
-        mul_equality_factor(rows, point[i], other[i], scratch);
+    for (a, b) in point.iter().zip(other) {
+        mul_equality_factor(rows, *a, *b, scratch);
     }
 }
 

@@ -59,10 +59,8 @@ pub fn successor_element<L: Level>(rows: &mut [L], point: &[L], other: &[L], scr
         first: L::one(),
         second: L::one(),
     };
-    for i in (0..point.len()).rev() {
-        let a = point[i];
-        let b = other[i];
-        settle(rows, a, b, carry, scratch);
-        carry = passed(carry, a, b);
+    for (a, b) in point.iter().rev().zip(other.iter().rev()) {
+        settle(rows, *a, *b, carry, scratch);
+        carry = passed(carry, *a, *b);
     }
 }

@@ -1,5 +1,6 @@
 -- The equality, successor and last elements, and equality factors, as sums of exterior products over the hypercube.
 use Rattle.std.proofs.Common.{◌≡◌, ℕ, suc, ◌+◌, ◌-◌, ◌^◌, [], ◌∷◌, map, length, sym, refl, ap, ◌∙◌, ap₂, arith, pow_pos}
+use native.Mathlib.Nat.{two-pow-succ}
 use mathlib.Core.Path.{fun_ext}
 use lib.Pow.{ones_lt, suc_ones}
 use Rattle.level.specs.Element.{Element, plus}
@@ -11,7 +12,7 @@ use Rattle.multilinear.specs.Equality.{Point, entry, equality}
 use Rattle.multilinear.proofs.Sums.{sum_same, sum_plus, sum_append}
 use Rattle.tensor_algebra.specs.Tensor.{Tensor, exterior, add, one, nothing, scale_rows, scale_columns, equality_factor, product, equality_element, successor_element, equality_factors}
 use Rattle.tensor_algebra.proofs.Columns.{plus_exterior, exterior_plus, scale_rows_add, scale_columns_add, scale_rows_exteriors, scale_columns_exteriors}
-use Rattle.tensor_algebra.proofs.Tables.{double, entry_low, entry_high, entry_first, entry_last, sum_halves}
+use Rattle.tensor_algebra.proofs.Tables.{entry_low, entry_high, entry_first, entry_last, sum_halves}
 
 -- the sum of a(i) ⊗ b(i)
 abbrev pub exteriors : {k : ℕ} → ℕ → (ℕ → Element k) → (ℕ → Element k) → Tensor k
@@ -125,7 +126,7 @@ module _ {k : ℕ} {A : Arithmetic k} (laws : Laws A) where
       → sum (2 ^ suc l - 1) f ≡ plus (plus (sum (2 ^ l - 1) f) (f (2 ^ l - 1))) (sum (2 ^ l - 1) (λ i. f (2 ^ l + i)))
   unfolding sum
   sum_middle l f =
-      let e : 2 ^ suc l - 1 ≡ 2 ^ l + (2 ^ l - 1) = omega (arith, double l, pow_pos l) in
+      let e : 2 ^ suc l - 1 ≡ 2 ^ l + (2 ^ l - 1) = omega (arith, two-pow-succ l, pow_pos l) in
       ap (λ n. sum n f) e ∙ sum_append (2 ^ l) (2 ^ l - 1) f
       ∙ ap (λ n. plus (sum n f) (sum (2 ^ l - 1) (λ i. f (2 ^ l + i)))) (sym (suc_ones l))
 

@@ -1,5 +1,6 @@
 -- Equality tables by their halves, their first and their last entry, and sums over them.
-use Rattle.std.proofs.Common.{◌≡◌, ℕ, suc, ◌+◌, ◌-◌, ◌*◌, ◌^◌, ◌<◌, [], ◌∷◌, map, length, sym, refl, ap, ◌∙◌, ap₂, one-mul, pow-suc, zero-mul, arith, pow_pos}
+use Rattle.std.proofs.Common.{◌≡◌, ℕ, suc, ◌+◌, ◌-◌, ◌*◌, ◌^◌, ◌<◌, [], ◌∷◌, map, length, sym, refl, ap, ◌∙◌, ap₂, one-mul, zero-mul, arith, pow_pos}
+use native.Mathlib.Nat.{two-pow-succ}
 use lib.Pow.{ones_lt}
 use Rattle.level.specs.Element.{Element, plus}
 use Rattle.level.specs.Laws.{Arithmetic, Laws}
@@ -8,9 +9,6 @@ use Rattle.multilinear.specs.Equality.{Point, factor, entry, equality}
 use Rattle.multilinear.proofs.Sums.{sum_same, sum_append}
 use Rattle.multilinear.proofs.Entries.{entry_parts}
 use Rattle.tensor_algebra.specs.Tensor.{product}
-
-pub double : (l : ℕ) → 2 ^ suc l ≡ 2 ^ l + 2 ^ l
-double l = omega (arith, pow-suc 2 l)
 
 module _ {k : ℕ} {A : Arithmetic k} (laws : Laws A) where
   -- the half of the table where the first coordinate's bit is 0, and the half where it is 1
@@ -39,7 +37,7 @@ module _ {k : ℕ} {A : Arithmetic k} (laws : Laws A) where
   unfolding entry product
   entry_last [] = refl
   entry_last (x ∷ p) =
-      let e : 2 ^ suc (length p) - 1 ≡ 2 ^ length p + (2 ^ length p - 1) = omega (arith, double (length p), pow_pos (length p)) in
+      let e : 2 ^ suc (length p) - 1 ≡ 2 ^ length p + (2 ^ length p - 1) = omega (arith, two-pow-succ (length p), pow_pos (length p)) in
       ap (equality A (x ∷ p)) e ∙ entry_high x p (2 ^ length p - 1) (ones_lt (length p)) ∙ ap (A.times x) (entry_last p)
 
   -- a sum over two tables, by halves
@@ -51,7 +49,7 @@ module _ {k : ℕ} {A : Arithmetic k} (laws : Laws A) where
   sum_halves x y p q e g =
       let n = 2 ^ length p in
       let f : ℕ → Element k = λ i. g (equality A (x ∷ p) i) (equality A (y ∷ q) i) in
-      ap (λ m. sum m f) (double (length p)) ∙ sum_append n n f
+      ap (λ m. sum m f) (two-pow-succ (length p)) ∙ sum_append n n f
       ∙ ap₂ plus
       (sum_same n _ _ (λ i h. ap₂ g (entry_low x p i h) (entry_low y q i (rw e h))))
       (sum_same n _ _ (λ i h. ap₂ g (entry_high x p i h) (ap (λ l. equality A (y ∷ q) (2 ^ l + i)) (sym e) ∙ entry_high y q i (rw e h))))

@@ -1,5 +1,5 @@
 -- One turn of the loops over columns, and what they end with.
-use Rattle.std.proofs.Common.{◌≡◌, ℕ, ◌+◌, ◌*◌, ◌/◌, ◌%◌, ◌^◌, ◌<◌, ◌≤◌, List, length, get_or, set, sym, refl, ap, ◌∙◌, ap₂, add-one, arith}
+use Rattle.std.proofs.Common.{◌≡◌, ◌==◌, ℕ, ◌+◌, ◌*◌, ◌/◌, ◌%◌, ◌^◌, ◌<◌, ◌≤◌, List, length, get_or, set, sym, refl, ap, ◌∙◌, ap₂, add-one, arith}
 use mathlib.Core.Path.{fun_ext}
 use Rattle.std.proofs.lemmas.Nat.{shr-shr}
 use Rattle.level.specs.Element.{Element, width, coordinate, cut, plus, zeros}
@@ -8,7 +8,7 @@ use Rattle.level.proofs.Elements.{same, cut_small, plus_assoc, plus_zeros}
 use Rattle.multilinear.specs.Lent.{lent}
 use Rattle.multilinear.specs.Gathered.{binary, binary_fits}
 use Rattle.multilinear.specs.Cells.{gather}
-use Rattle.multilinear.specs.Sums.{sum, at_bit}
+use Rattle.multilinear.specs.Sums.{sum, at_bit, where_set}
 use Rattle.multilinear.proofs.Lent.{lent_read}
 use Rattle.multilinear.proofs.Sums.{at_bit_zeros}
 use Rattle.multilinear.proofs.Coordinates.{coordinate_mod}
@@ -17,7 +17,7 @@ use Rattle.tensor_algebra.specs.Tensor.{Tensor, nothing, exterior, add, column, 
 use Rattle.tensor_algebra.proofs.BucketSums.{scale_columns_rows}
 use Rattle.ring_switch.specs.Claims.{by_columns}
 use Rattle.tensor_rows.proofs.Places.{Written, lent_past, written_read, written_more, written_all}
-use Rattle.tensor_rows.proofs.Tensors.{add_past, scale_rows_past, nothing_add}
+use Rattle.tensor_rows.proofs.Tensors.{add_past, scale_rows_past, nothing_add, digit_set}
 use Rattle.tensor_rows.proofs.ColumnSums.{columns_by_rows}
 
 -- a zero row adds nothing
@@ -72,14 +72,14 @@ module _ {X : Type 0} {k : ℕ} (means : X → Element k) where
     unfoldable pub factored : List X → Tensor k
     factored xs = add (add (lent means xs) (lent means ys)) (scale_rows A b (lent means xs))
 
-    pub factored_more : (xs zs : List X) (i : ℕ) (x y z : X) → i < length zs → i < length ys → x ≡ get_or zs i x → y ≡ get_or ys i y
-        → means z ≡ plus (plus (means x) (means y)) (A.times b (means x))
+    pub factored_more : (xs zs : List X) (i : ℕ) (d y z : X) → i < length zs → i < length ys → y ≡ get_or ys i y
+        → means z ≡ plus (plus (means (get_or zs i d)) (means y)) (A.times b (means (get_or zs i d)))
         → Written means (factored xs) xs zs i → Written means (factored xs) xs (set zs i z) (i + 1)
     unfolding factored add scale_rows
-    factored_more xs zs i x y z h l read other made w =
+    factored_more xs zs i d y z h l other made w =
         let f = factored xs in
         written_more means f xs zs i z h
-        (made ∙ ap₂ (λ p q. plus (plus p q) (A.times b p)) (written_read means f xs zs i x h read w) (lent_read means ys i y l other)) w
+        (made ∙ ap₂ (λ p q. plus (plus p q) (A.times b p)) (written_read means f xs zs i d h w) (lent_read means ys i y l other)) w
 
     pub factored_all : Laws A → (xs zs : List X) (i : ℕ) → length ys ≡ length xs → length xs ≤ i
         → Written means (factored xs) xs zs i → lent means zs ≡ add (add (lent means xs) (lent means ys)) (scale_rows A b (lent means xs))
@@ -128,11 +128,11 @@ module _ {X : Type 0} {k : ℕ} (means : X → Element k) where
   subset_none n ws s e = record { digits = omega arith; total = e }
 
   pub subset_more : (n : ℕ) (ws : List X) (i rest : ℕ) (w : X) (s r : Element k) → i < length ws → w ≡ get_or ws i w
-      → r ≡ plus s (at_bit (rest % 2) (means w)) → Subset n ws i rest s → Subset n ws (i + 1) (rest / 2) r
+      → r ≡ plus s (where_set (rest % 2 == 1) (means w)) → Subset n ws i rest s → Subset n ws (i + 1) (rest / 2) r
   unfolding sum
   subset_more n ws i rest w s r h read made p = record {
     digits = ap (λ m. m / 2) p.digits ∙ shr-shr n i 1;
-    total = made ∙ ap₂ plus p.total (ap₂ (λ m x. at_bit (m % 2) x) p.digits (lent_read means ws i w h read))
+    total = made ∙ ap₂ plus p.total (digit_set (rest % 2) (means w) (omega arith) ∙ ap₂ (λ m x. at_bit (m % 2) x) p.digits (lent_read means ws i w h read))
         ∙ ap (λ j. sum j (λ v. at_bit (n / 2 ^ v % 2) (lent means ws v))) (sym (add-one i));
   }
 

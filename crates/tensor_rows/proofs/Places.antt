@@ -1,17 +1,44 @@
 -- A loop over a lent slice that writes one place after another.
-use Rattle.std.proofs.Common.{◌≡◌, ℕ, ◌+◌, ◌<◌, ◌≤◌, ◌≢◌, List, map, length, get_or, set, sym, refl, ap, ◌∙◌, ⊎_elim, arith}
+use Rattle.std.proofs.Common.{◌≡◌, ℕ, ◌+◌, ◌<◌, ◌≤◌, ◌≢◌, List, map, length, get_or, take, drop, set, sym, refl, ap, ◌∙◌, ⊎_elim, arith, rules}
+use borrow.Rule.Slice.PartMut.{put_mid}
 use mathlib.Core.Path.{fun_ext}
 use lib.ListN.{length-map}
-use Rattle.std.proofs.lemmas.List.{get_or_past}
+use Rattle.std.proofs.lemmas.List.{get_or_past, get_or-map, map-append, take-map, drop-map, get_or-take, get_or-drop, places}
 use Rattle.std.proofs.lemmas.Bool.{cases_eq, cases_lt}
 use Rattle.level.specs.Element.{Element, zeros}
 use Rattle.multilinear.specs.Lent.{lent}
-use Rattle.multilinear.proofs.Lent.{lent_read, lent_written, lent_kept}
+use Rattle.multilinear.proofs.Lent.{lent_written, lent_kept}
 
 module _ {X : Type 0} {k : ℕ} (means : X → Element k) where
   -- a lent slice is zero past its end
   pub lent_past : (xs : List X) (i : ℕ) → length xs ≤ i → lent means xs i ≡ zeros k
   lent_past xs i h = get_or_past (map means xs) i (zeros k) (rw length-map h)
+
+  -- after a write to a part of the slice: before it, in it and past it
+  put_parts : (a n : ℕ) (xs ys : List X) → map means (put_mid a n xs ys) ≡ put_mid a n (map means xs) (map means ys)
+  put_parts a n xs ys = simp (map-append, take-map, drop-map)
+
+  pub before_part : (a n : ℕ) (xs ys : List X) (u : ℕ) → u < a → a ≤ length xs → lent means (put_mid a n xs ys) u ≡ lent means xs u
+  before_part a n xs ys u h room =
+      let fits : a ≤ length (map means xs) = rw length-map room in
+      ap (λ zs. get_or zs u (zeros k)) (put_parts a n xs ys) ∙ search (rules, places)
+
+  pub in_part : (a n : ℕ) (xs ys : List X) (j : ℕ) → j < length ys → a ≤ length xs → lent means (put_mid a n xs ys) (a + j) ≡ lent means ys j
+  in_part a n xs ys j h room =
+      let fits : a ≤ length (map means xs) = rw length-map room in
+      let inside : j < length (map means ys) = rw length-map h in
+      ap (λ zs. get_or zs (a + j) (zeros k)) (put_parts a n xs ys) ∙ search (rules, places)
+
+  pub past_part : (a n : ℕ) (xs ys : List X) (u : ℕ) → a + n ≤ u → length ys ≡ n → a ≤ length xs → lent means (put_mid a n xs ys) u ≡ lent means xs u
+  past_part a n xs ys u h long room =
+      let fits : a ≤ length (map means xs) = rw length-map room in
+      let same : length (map means ys) ≡ n = rw length-map long in
+      ap (λ zs. get_or zs u (zeros k)) (put_parts a n xs ys) ∙ search (rules, places)
+
+  -- a part as it is read
+  pub of_part : (a n : ℕ) (xs : List X) (j : ℕ) → j < n → lent means (take n (drop a xs)) j ≡ lent means xs (a + j)
+  of_part a n xs j h =
+      ap (λ zs. get_or zs j (zeros k)) (simp (take-map, drop-map)) ∙ get_or-take n (drop a (map means xs)) j (zeros k) h ∙ get_or-drop a (map means xs) j (zeros k)
 
   -- the places below i hold what f has there, the others what they held
   pub record Written (f : ℕ → Element k) (old new : List X) (i : ℕ) : Type 0 where
@@ -22,9 +49,9 @@ module _ {X : Type 0} {k : ℕ} (means : X → Element k) where
   written_none f xs = record { done = λ j h. absurd (omega arith); rest = λ j h. refl }
 
   -- what is read at the next place
-  pub written_read : (f : ℕ → Element k) (xs zs : List X) (i : ℕ) (x : X) → i < length zs → x ≡ get_or zs i x → Written f xs zs i
-      → means x ≡ lent means xs i
-  written_read f xs zs i x h e w = lent_read means zs i x h e ∙ w.rest i (omega arith)
+  pub written_read : (f : ℕ → Element k) (xs zs : List X) (i : ℕ) (d : X) → i < length zs → Written f xs zs i
+      → means (get_or zs i d) ≡ lent means xs i
+  written_read f xs zs i d h w = sym (get_or-map means zs i d (zeros k) h) ∙ w.rest i (omega arith)
 
   -- one place more
   pub written_more : (f : ℕ → Element k) (xs zs : List X) (i : ℕ) (y : X) → i < length zs → means y ≡ f i → Written f xs zs i

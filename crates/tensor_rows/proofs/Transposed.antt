@@ -1,8 +1,9 @@
 -- All columns of a tensor, gathered from the coordinates of its rows.
-use Rattle.std.proofs.Common.{◌≡◌, ℕ, zero, suc, ◌+◌, ◌-◌, ◌*◌, ◌/◌, ◌%◌, ◌^◌, ◌<◌, ◌≤◌, ◌≢◌, List, length, get_or, set, sym, ap, ◌∙◌, ap₂, mul_comm, pow-suc, mul_left_comm, arith, pow_mono, below_more}
+use Rattle.std.proofs.Common.{◌≡◌, ℕ, zero, suc, ◌+◌, ◌-◌, ◌*◌, ◌/◌, ◌%◌, ◌^◌, ◌<◌, ◌≤◌, ◌≢◌, List, length, get_or, take, reverse, set, sym, ap, ◌∙◌, ap₂, mul_comm, pow-suc, mul_left_comm, arith, pow_mono, below_more}
 use mathlib.Core.Path.{fun_ext}
 use native.Mathlib.Nat.{mod-mod}
-use Rattle.std.proofs.lemmas.List.{get_or-set_same, get_or-set_other}
+use Rattle.std.proofs.lemmas.Grind.{get_or_default_zero}
+use Rattle.std.proofs.lemmas.List.{length-reverse, get_or-reverse, get_or-take, length-take-le, get_or-set_same, get_or-set_other}
 use Rattle.level.specs.Element.{Element, width, coordinate, cut, zeros}
 use Rattle.level.proofs.Elements.{same, cut_small}
 use Rattle.multilinear.specs.Lent.{lent}
@@ -41,7 +42,7 @@ module _ (ns : List ℕ) (v d : ℕ) where
       let less : 2 ^ (d - i) ≤ 2 ^ 127 = pow_mono short in
       omega (arith, binary_fits (d - i) (λ j. digit (i + j)))
 
-  pub digits_more : (i s r : ℕ) → 0 < i → i ≤ d → r ≡ 2 * s + get_or ns (i - 1) 0 / 2 ^ v % 2 → s ≡ digits_from i → r ≡ digits_from (i - 1)
+  digits_more : (i s r : ℕ) → 0 < i → i ≤ d → r ≡ 2 * s + get_or ns (i - 1) 0 / 2 ^ v % 2 → s ≡ digits_from i → r ≡ digits_from (i - 1)
   unfolding digits_from
   digits_more i s r some h made e =
       let one_more : suc (d - i) ≡ d - (i - 1) = omega arith in
@@ -55,6 +56,18 @@ module _ (ns : List ℕ) (v d : ℕ) where
   digits_all i s h e =
       let all : d - i ≡ d = omega arith in
       e ∙ ap₂ binary all (fun_ext (λ j. ap digit (omega arith)))
+
+-- one more number, read from the last on
+pub digits_turn : (ns : List ℕ) (v n m s r x : ℕ) → m ≡ n + 1 → n < length (reverse ns) → x ≡ get_or (reverse ns) n x → r ≡ 2 * s + x / 2 ^ v % 2
+    → s ≡ digits_from ns v (length ns) (length ns - n) → r ≡ digits_from ns v (length ns) (length ns - m)
+digits_turn ns v n m s r x more h read made e =
+    let i = length ns - n in
+    let inside : n < length ns = omega (arith, length-reverse ns) in
+    let place : length ns - 1 - n ≡ i - 1 = omega arith in
+    let item : x ≡ get_or ns (i - 1) 0 =
+    read ∙ get_or-reverse ns n x inside ∙ ap (λ j. get_or ns j x) place ∙ get_or_default_zero ns (i - 1) x (omega arith) in
+    let next : i - 1 ≡ length ns - m = omega arith in
+    digits_more ns v (length ns) i s r (omega arith) (omega arith) (made ∙ ap (λ y. 2 * s + y / 2 ^ v % 2) item) e ∙ ap (digits_from ns v (length ns)) next
 
 -- a number that has the width's binary digits, as an element
 cut_binary : (k n : ℕ) (f : ℕ → ℕ) → n ≡ binary (width k) f → cut k n ≡ gather k f
@@ -85,15 +98,22 @@ module _ {X : Type 0} {k : ℕ} (means : X → Element k) where
       (get_or-set_same ns i n 0 l ∙ made ∙ ap (λ y. y.number) (lent_read means xs i x h read))
 
   -- a column from the coordinates of all rows
-  pub column_from : (xs : List X) (ns : List ℕ) (v d n : ℕ) (x : Element k) → d ≡ width k → Read xs ns (width k)
+  column_of : (xs : List X) (ns : List ℕ) (v d n : ℕ) (x : Element k) → d ≡ width k → Read xs ns (width k)
       → n ≡ binary d (λ u. get_or ns u 0 / 2 ^ v % 2) → x ≡ cut k n → x ≡ column (lent means xs) v
   unfolding column
-  column_from xs ns v d n x wide r gathered made =
+  column_of xs ns v d n x wide r gathered made =
       let digit : ℕ → ℕ = λ u. get_or ns u 0 / 2 ^ v % 2 in
       made ∙ cut_binary k n digit (gathered ∙ ap (λ w. binary w digit) wide)
       ∙ gather_coordinates (column (lent means xs) v) _ (λ u h.
       mod-mod (get_or ns u 0 / 2 ^ v) 2 ∙ ap (λ m. m / 2 ^ v % 2) (r u h)
       ∙ sym (column_coordinate (lent means xs) u v h))
+
+  -- the same, where they are the first of a longer list
+  pub column_from : (xs : List X) (ns : List ℕ) (v d n : ℕ) (x : Element k) → d ≡ width k → d ≤ length ns → Read xs ns (width k)
+      → n ≡ binary (length (take d ns)) (λ u. get_or (take d ns) u 0 / 2 ^ v % 2) → x ≡ cut k n → x ≡ column (lent means xs) v
+  column_from xs ns v d n x wide few r gathered made =
+      let ms = take d ns in
+      column_of xs ms v (length ms) n x (length-take-le d ns few ∙ wide) (λ u h. get_or-take d ns u 0 (omega arith) ∙ r u h) gathered made
 
   pub columns_all : (xs ys zs : List X) (i : ℕ) → length ys ≡ width k → length ys ≤ i → Written means (column (lent means xs)) ys zs i
       → lent means zs ≡ column (lent means xs)

@@ -6,7 +6,7 @@ ghost use Rattle.tensor_algebra.specs.Subsets.{basis};
 ghost use Rattle.tensor_algebra.specs.Tensor.{nothing, exterior, add, column, scale_rows, scale_columns, equality_factor, subset_sum};
 ghost use Rattle.ring_switch.specs.Claims.{by_columns};
 
-use crate::rows::{add_exterior_product, add_where_set, clear};
+use crate::rows::{add_exterior_product, add_where, clear};
 use coordinates::{basis, coordinate, coordinates, from_coordinates, with_coordinate};
 use level::level::Level;
 
@@ -29,8 +29,8 @@ pub fn add_scaled_columns<L: Level>(rows: &mut [L], other: &[L], a: L)
     requires other { length other.now ≡ width L.Level.log }
     ensures { lent L.means rows.new ≡ add (lent L.means rows.old) (scale_columns L.arithmetic (L.means a) (lent L.means other.now)) }
 {
-    for u in 0..other.len() {
-        add_scaled_row(rows, u, other[u], a);
+    for (u, row) in other.iter().enumerate() {
+        add_scaled_row(rows, u, *row, a);
     }
 }
 
@@ -48,20 +48,13 @@ pub fn scale_columns<L: Level>(rows: &mut [L], a: L, scratch: &mut [L])
     clear(scratch);
 }
 
-// One row under the equality factor: the row, the row with its columns scaled, and the row times b.
-fn factored_row<L: Level>(row: L, scaled: L, b: L) -> L
-    ensures { L.means result ≡ plus (plus (L.means row) (L.means scaled)) (L.arithmetic.times (L.means b) (L.means row)) }
-{
-    row.add(scaled).add(b.mul(row))
-}
-
-// Adds the rows `scaled`, and the rows themselves times b.
+// Adds the rows `scaled`, read by index as in `rows::add`, and the rows themselves times b.
 fn add_scaled<L: Level>(rows: &mut [L], scaled: &[L], b: L)
     requires { length scaled.now ≡ length rows.old }
     ensures { lent L.means rows.new ≡ add (add (lent L.means rows.old) (lent L.means scaled.now)) (scale_rows L.arithmetic (L.means b) (lent L.means rows.old)) }
 {
-    for u in 0..rows.len() {
-        rows[u] = factored_row(rows[u], scaled[u], b);
+    for (u, row) in rows.iter_mut().enumerate() {
+        *row = row.add(scaled[u]).add(b.mul(*row));
     }
 }
 
@@ -79,17 +72,6 @@ pub fn mul_equality_factor<L: Level>(rows: &mut [L], a: L, b: L, scratch: &mut [
     clear(scratch);
 }
 
-// The coordinates below u of column v, with the next: coordinate v of row u.
-fn column_with_row<L: Level>(below: u128, u: usize, row: L, v: usize) -> u128
-    requires narrow { L.Level.log ≤ 7 }
-    requires place { u < 128 }
-    requires read { v < 128 }
-    requires fits { below < 2 ^ u }
-    ensures { result ≡ below + coordinate (L.means row) v * 2 ^ u }
-{
-    with_coordinate(below, u, coordinate(coordinates(row), v))
-}
-
 // Column v, read as an element: its coordinate u is coordinate v of row u.
 pub fn column<L: Level>(rows: &[L], v: usize) -> L
     requires narrow { L.Level.log ≤ 7 }
@@ -98,8 +80,8 @@ pub fn column<L: Level>(rows: &[L], v: usize) -> L
     ensures { L.means result ≡ column (lent L.means rows.now) v }
 {
     let mut column = 0;
-    for u in 0..rows.len() {
-        column = column_with_row(column, u, rows[u], v);
+    for (u, row) in rows.iter().enumerate() {
+        column = with_coordinate(column, u, coordinate(coordinates(*row), v));
     }
     from_coordinates(column)
 }
@@ -111,28 +93,20 @@ fn row_coordinates<L: Level>(rows: &[L]) -> [u128; 128]
     ensures { (u : ℕ) → u < width L.Level.log → slice_index result u ≡ (lent L.means rows.now u).number }
 {
     let mut source = [0; 128];
-    for u in 0..rows.len() {
-        source[u] = coordinates(rows[u]);
+    for (u, row) in rows.iter().enumerate() {
+        source[u] = coordinates(*row);
     }
     source
 }
 
-// The coordinates of column v above coordinate u, with that one below them: coordinate v of row u, from the row's coordinates.
-fn with_source(above: u128, row: u128, v: usize) -> u128
-    requires { (above < 2 ^ 127) × (v < 128) }
-    ensures { result ≡ 2 * above + row / 2 ^ v % 2 }
-{
-    2 * above + coordinate(row, v)
-}
-
-// The coordinates of column v, gathered from those of the first d rows, the last row's first.
-fn gather(source: &[u128], d: usize, v: usize) -> u128
-    requires { (d ≤ length source.now) × ((d ≤ 128) × (v < 128)) }
-    ensures { result ≡ binary d (λ u. slice_index source.now u / 2 ^ v % 2) }
+// The coordinates of column v, gathered from those of the rows, the last row's first.
+fn gather(source: &[u128], v: usize) -> u128
+    requires { (length source.now ≤ 128) × (v < 128) }
+    ensures { result ≡ binary (length source.now) (λ u. slice_index source.now u / 2 ^ v % 2) }
 {
     let mut column = 0;
-    for u in (0..d).rev() {
-        column = with_source(column, source[u], v);
+    for row in source.iter().rev() {
+        column = 2 * column + coordinate(*row, v);
     }
     column
 }
@@ -145,8 +119,8 @@ pub fn columns<L: Level>(rows: &[L], out: &mut [L])
     ensures { lent L.means out.new ≡ column (lent L.means rows.now) }
 {
     let source = row_coordinates(rows);
-    for v in 0..out.len() {
-        out[v] = from_coordinates(gather(&source, rows.len(), v));
+    for (v, column) in out.iter_mut().enumerate() {
+        *column = from_coordinates(gather(&source[..rows.len()], v));
     }
 }
 
@@ -158,21 +132,11 @@ fn subset_sum<L: Level>(weights: &[L], x: L) -> L
 {
     let mut rest = coordinates(x);
     let mut sum = L::zero();
-    for v in 0..weights.len() {
-        sum = add_where_set(sum, rest, weights[v]);
+    for weight in weights {
+        sum = add_where(sum, rest % 2 == 1, *weight);
         rest /= 2;
     }
     sum
-}
-
-// A sum, with row u read against the weights at the basis element u.
-fn with_row<L: Level>(sum: L, u: usize, row: L, weights: &[L]) -> L
-    requires narrow { L.Level.log ≤ 7 }
-    requires weights { length weights.now ≡ width L.Level.log }
-    requires place { u < width L.Level.log }
-    ensures { L.means result ≡ plus (L.means sum) (L.arithmetic.times (basis L.Level.log u) (subset_sum (lent L.means weights.now) (L.means row))) }
-{
-    sum.add(basis::<L>(u).mul(subset_sum(weights, row)))
 }
 
 // The sum of all columns, column v times weight v. It is summed by the rows, each of which is read once.
@@ -183,8 +147,8 @@ pub fn by_columns<L: Level>(rows: &[L], weights: &[L]) -> L
     ensures { L.means result ≡ by_columns L.arithmetic (lent L.means weights.now) (lent L.means rows.now) }
 {
     let mut sum = L::zero();
-    for u in 0..rows.len() {
-        sum = with_row(sum, u, rows[u], weights);
+    for (u, row) in rows.iter().enumerate() {
+        sum = sum.add(basis::<L>(u).mul(subset_sum(weights, *row)));
     }
     sum
 }

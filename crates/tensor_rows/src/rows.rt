@@ -1,63 +1,37 @@
 ghost use Rattle.std.specs.Prelude.{◌≡◌, ℕ, ◌+◌, ◌/◌, ◌%◌, ◌^◌, ◌<◌, ◌≤◌, min, length};
 ghost use Rattle.level.specs.Element.{plus, width};
 ghost use Rattle.multilinear.specs.Lent.{lent};
-ghost use Rattle.multilinear.specs.Sums.{at_bit};
+ghost use Rattle.multilinear.specs.Sums.{at_bit, where_set};
 ghost use Rattle.tensor_algebra.specs.Tensor.{nothing, one, exterior, add, scale_rows, batch_rows};
 
-use coordinates::width;
+use coordinates::{num_bytes, width};
 use level::level::Level;
 
-// Sets every row to zero.
+// Sets every row to zero. It is no `fill`, which asks that a clone cannot fail, and `Copy` does not say so.
 pub fn clear<L: Level>(rows: &mut [L])
     ensures { lent L.means rows.new ≡ nothing }
 {
-    for u in 0..rows.len() {
-        rows[u] = L::zero();
+    for row in rows.iter_mut() {
+        *row = L::zero();
     }
 }
 
-// x, with y added where the lowest of the coordinates is set.
-pub(crate) fn add_where_set<L: Level>(x: L, coordinates: u128, y: L) -> L
-    ensures { L.means result ≡ plus (L.means x) (at_bit (coordinates % 2) (L.means y)) }
+// x, with y added where a coordinate is set.
+pub(crate) fn add_where<L: Level>(x: L, set: bool, y: L) -> L
+    ensures { L.means result ≡ plus (L.means x) (where_set set (L.means y)) }
 {
-    if coordinates % 2 == 1 { x.add(y) } else { x }
+    if set { x.add(y) } else { x }
 }
 
-// The same with the coordinates of one byte.
-fn add_where_odd<L: Level>(x: L, coordinates: u8, y: L) -> L
-    ensures { L.means result ≡ plus (L.means x) (at_bit (coordinates % 2) (L.means y)) }
-{
-    if coordinates % 2 == 1 { x.add(y) } else { x }
-}
-
-// Adds b to each of `count` rows from `start` on whose coordinate is set, the lowest first.
-fn add_from<L: Level>(rows: &mut [L], start: usize, count: usize, coordinates: u8, b: L)
-    requires { start + count ≤ length rows.old }
-    ensures added { (i : ℕ) → i < count → lent L.means rows.new (start + i) ≡ plus (lent L.means rows.old (start + i)) (at_bit (coordinates / 2 ^ i % 2) (L.means b)) }
-    ensures before { (u : ℕ) → u < start → lent L.means rows.new u ≡ lent L.means rows.old u }
-    ensures after { (u : ℕ) → start + count ≤ u → lent L.means rows.new u ≡ lent L.means rows.old u }
+// Adds b to each row whose coordinate is set, the byte's lowest coordinate that of the first row.
+fn add_byte<L: Level>(rows: &mut [L], coordinates: u8, b: L)
+    ensures { (i : ℕ) → i < length rows.old → lent L.means rows.new i ≡ plus (lent L.means rows.old i) (at_bit (coordinates / 2 ^ i % 2) (L.means b)) }
 {
     let mut rest = coordinates;
-    for i in 0..count {
-        rows[start + i] = add_where_odd(rows[start + i], rest, b);
+    for row in rows.iter_mut() {
+        *row = add_where(*row, rest % 2 == 1, b);
         rest /= 2;
     }
-}
-
-// How many bytes the coordinates fill, one where they fill less.
-fn byte_count<L: Level>() -> usize
-    requires { L.Level.log ≤ 7 }
-    ensures { result ≡ (width L.Level.log + 7) / 8 }
-{
-    (width::<L>() + 7) / 8
-}
-
-// How many coordinates a byte has: eight, or all where they fill less.
-fn byte_width<L: Level>() -> usize
-    requires { L.Level.log ≤ 7 }
-    ensures { result ≡ min (width L.Level.log) 8 }
-{
-    width::<L>().min(8)
 }
 
 // Adds a ⊗ b: b to each row whose coordinate of a is set, a byte of coordinates at a time.
@@ -67,8 +41,12 @@ pub fn add_exterior_product<L: Level>(rows: &mut [L], a: L, b: L)
     ensures { lent L.means rows.new ≡ add (lent L.means rows.old) (exterior (L.means a) (L.means b)) }
 {
     let bytes = a.to_bytes();
-    for j in 0..byte_count::<L>() {
-        add_from(rows, 8 * j, byte_width::<L>(), bytes[j], b);
+    let count = width::<L>().min(8);
+
+    // A part of the rows for each byte, since of what is written through `chunks_mut` a proof knows only the length.
+    for (j, byte) in bytes[..num_bytes::<L>()].iter().enumerate() {
+        let start = 8 * j;
+        add_byte(&mut rows[start..start + count], *byte, b);
     }
 }
 
@@ -82,13 +60,13 @@ pub fn set_one<L: Level>(rows: &mut [L])
     add_exterior_product(rows, L::one(), L::one());
 }
 
-// Adds other rows, row by row.
+// Adds other rows, row by row. They are read by index, since after a zip with `iter_mut` nothing is known of what it wrote.
 pub fn add<L: Level>(rows: &mut [L], other: &[L])
     requires { length other.now ≡ length rows.old }
     ensures { lent L.means rows.new ≡ add (lent L.means rows.old) (lent L.means other.now) }
 {
-    for u in 0..rows.len() {
-        rows[u] = rows[u].add(other[u]);
+    for (u, row) in rows.iter_mut().enumerate() {
+        *row = row.add(other[u]);
     }
 }
 
@@ -96,16 +74,9 @@ pub fn add<L: Level>(rows: &mut [L], other: &[L])
 pub fn scale_rows<L: Level>(rows: &mut [L], b: L)
     ensures { lent L.means rows.new ≡ scale_rows L.arithmetic (L.means b) (lent L.means rows.old) }
 {
-    for u in 0..rows.len() {
-        rows[u] = b.mul(rows[u]);
+    for row in rows.iter_mut() {
+        *row = b.mul(*row);
     }
-}
-
-// A sum with a row times its weight.
-fn with_term<L: Level>(sum: L, weight: L, row: L) -> L
-    ensures { L.means result ≡ plus (L.means sum) (L.arithmetic.times (L.means weight) (L.means row)) }
-{
-    sum.add(weight.mul(row))
 }
 
 // The sum of the rows, each times its weight.
@@ -115,8 +86,8 @@ pub fn batch_rows<L: Level>(rows: &[L], weights: &[L]) -> L
     ensures { L.means result ≡ batch_rows L.arithmetic (lent L.means weights.now) (lent L.means rows.now) }
 {
     let mut sum = L::zero();
-    for u in 0..rows.len() {
-        sum = with_term(sum, weights[u], rows[u]);
+    for (row, weight) in rows.iter().zip(weights) {
+        sum = sum.add(weight.mul(*row));
     }
     sum
 }

@@ -1,6 +1,7 @@
 -- Settled weights combined in place, column by column.
-use Rattle.std.proofs.Common.{◌≡◌, ℕ, zero, suc, ◌+◌, ◌-◌, ◌*◌, ◌/◌, ◌%◌, ◌^◌, ◌<◌, ◌≤◌, min, Bool, true, false, not, eqb, ◌≢◌, List, length, get_or, set, sym, refl, ap, ◌∙◌, ap₂, ⊎_elim, mul-le-mul_right, mod-lt, suc-mul, div-add-mod', add-one, arith, pow_pos}
+use Rattle.std.proofs.Common.{◌≡◌, ℕ, zero, suc, ◌+◌, ◌-◌, ◌*◌, ◌/◌, ◌%◌, ◌^◌, ◌<◌, ◌≤◌, min, Bool, true, false, not, eqb, ◌≢◌, List, length, get_or, set, take, drop, sym, refl, ap, ◌∙◌, ap₂, ⊎_elim, mul-le-mul_right, mod-lt, suc-mul, div-add-mod', add-one, arith, pow_pos}
 use native.Mathlib.Nat.{zero-mod, mul-mod_left}
+use borrow.Rule.Slice.PartMut.{put_mid}
 use lib.Arith.{digits_mod}
 use Rattle.std.proofs.lemmas.Bool.{eq-eqb, ne_eqb, cases_eq, cases_lt}
 use Rattle.level.specs.Element.{Element, plus}
@@ -10,7 +11,7 @@ use Rattle.multilinear.specs.Lent.{lent}
 use Rattle.multilinear.specs.Sums.{where_set}
 use Rattle.multilinear.proofs.Lent.{lent_read, lent_written, lent_kept}
 use Rattle.multilinear.proofs.Windows.{where_same}
-use Rattle.tensor_rows.proofs.Places.{Written}
+use Rattle.tensor_rows.proofs.Places.{Written, before_part, in_part, past_part, of_part}
 use Rattle.ring_switch.specs.Claims.{starts, ends}
 use Rattle.ring_switch.proofs.ColumnsBounds.{starts_suc}
 use Rattle.weights.specs.Stepped.{ended, carried, stepped}
@@ -116,19 +117,18 @@ module _ {X : Type 0} {k : ℕ} (means : X → Element k) (A : Arithmetic k) (r 
       ⊎_elim (w.done j) (λ g. w.rest j g ∙ ended_inside φ (lent means xs) j (ends_inside r c j g (omega arith))) (cases_lt j (c * 2 ^ r))
 
   -- the entries of a column carried from the last down to i
-  pub record Carrying (α : Element k) (old new : List X) (start end i : ℕ) : Type 0 where
-    pub above : start < i
+  pub record Carrying (α : Element k) (old new : List X) (i : ℕ) : Type 0 where
+    pub above : 0 < i
     pub below : (j : ℕ) → j < i → lent means new j ≡ lent means old j
-    pub done : (j : ℕ) → i ≤ j → j < end → lent means new j ≡ plus (lent means old j) (A.times α (lent means old (j - 1)))
-    pub after : (j : ℕ) → end ≤ j → lent means new j ≡ lent means old j
+    pub done : (j : ℕ) → i ≤ j → j < length old → lent means new j ≡ plus (lent means old j) (A.times α (lent means old (j - 1)))
 
-  pub carrying_none : (α : Element k) (xs : List X) (start end : ℕ) → start < end → Carrying α xs xs start end end
-  carrying_none α xs start end h = record { above = h; below = λ j l. refl; done = λ j l m. absurd (omega arith); after = λ j l. refl }
+  pub carrying_none : (α : Element k) (xs : List X) → 0 < length xs → Carrying α xs xs (length xs)
+  carrying_none α xs h = record { above = h; below = λ j l. refl; done = λ j l m. absurd (omega arith) }
 
-  pub carrying_more : (α : Element k) (xs zs : List X) (start end i : ℕ) (x b p y : X) → start + 1 < i → i ≤ end → i ≤ length zs
+  pub carrying_more : (α : Element k) (xs zs : List X) (i : ℕ) (x b p y : X) → 1 < i → i ≤ length zs
       → x ≡ get_or zs (i - 1) x → b ≡ get_or zs (i - 1 - 1) b → means p ≡ A.times α (means b) → means y ≡ plus (means x) (means p)
-      → Carrying α xs zs start end i → Carrying α xs (set zs (i - 1) y) start end (i - 1)
-  carrying_more α xs zs start end i x b p y h within l read before product made w =
+      → Carrying α xs zs i → Carrying α xs (set zs (i - 1) y) (i - 1)
+  carrying_more α xs zs i x b p y h l read before product made w =
       let here : i - 1 < length zs = omega arith in
       let back : i - 1 - 1 < length zs = omega arith in record {
         above = omega arith;
@@ -140,7 +140,40 @@ module _ {X : Type 0} {k : ℕ} (means : X → Element k) (A : Arithmetic k) (r 
             ∙ ap (λ a. plus (lent means xs a) (A.times α (lent means xs (a - 1)))) (sym e))
             (λ ne. lent_kept means zs (i - 1) j y ne ∙ w.done j (omega (arith, ne)) n)
             (cases_eq j (i - 1));
-        after = λ j m. let ne : j ≢ i - 1 = omega arith in lent_kept means zs (i - 1) j y ne ∙ w.after j m;
+      }
+
+  -- every entry of a table from `start` to `end` but the first carried
+  pub record Carried (α : Element k) (old new : List X) (start end : ℕ) : Type 0 where
+    pub here : (j : ℕ) → start < j → j < end → lent means new j ≡ plus (lent means old j) (A.times α (lent means old (j - 1)))
+    pub before : (j : ℕ) → j ≤ start → lent means new j ≡ lent means old j
+    pub after : (j : ℕ) → end ≤ j → lent means new j ≡ lent means old j
+
+  -- a column of a table, carried on its own
+  pub column_carried : (α : Element k) (ys column : List X) (start end : ℕ) → start < end → end ≤ length ys → length column ≡ end - start
+      → lent means column 0 ≡ lent means (take (end - start) (drop start ys)) 0
+      → ((i : ℕ) → 0 < i → i < end - start → lent means column i
+      ≡ plus (lent means (take (end - start) (drop start ys)) i) (A.times α (lent means (take (end - start) (drop start ys)) (i - 1))))
+      → Carried α ys (put_mid start (end - start) ys column) start end
+  column_carried α ys column start end filled room size first later =
+      let n = end - start in
+      let own = λ (i : ℕ) (l : i < n). of_part means start n ys i l in
+      record {
+        here = λ j h l.
+            let i = j - start in
+            let place : start + i ≡ j = omega arith in
+            let back : start + (i - 1) ≡ j - 1 = omega arith in
+            let inside : i < n = omega arith in
+            let inside' : i - 1 < n = omega arith in
+            ap (lent means (put_mid start n ys column)) (sym place) ∙ in_part means start n ys column i (omega arith) (omega arith) ∙ later i (omega arith) inside
+            ∙ ap₂ (λ a b. plus a (A.times α b)) (own i inside ∙ ap (lent means ys) place) (own (i - 1) inside' ∙ ap (lent means ys) back);
+        before = λ j h. ⊎_elim
+            (λ l. before_part means start n ys column j l (omega arith))
+            (λ g.
+            let place : start + 0 ≡ j = omega arith in
+            ap (lent means (put_mid start n ys column)) (sym place) ∙ in_part means start n ys column 0 (omega arith) (omega arith) ∙ first
+            ∙ own 0 (omega arith) ∙ ap (lent means ys) place)
+            (cases_lt j start);
+        after = λ j h. past_part means start n ys column j (omega arith) size (omega arith);
       }
 
   -- the columns below c carried
@@ -152,24 +185,21 @@ module _ {X : Type 0} {k : ℕ} (means : X → Element k) (A : Arithmetic k) (r 
   columns_none α xs = record { done = λ j l m. absurd (omega arith); rest = λ j l. refl }
 
   pub columns_more : (α : Element k) (xs ys zs : List X) (c start end : ℕ) → start ≡ c * 2 ^ r → end ≡ min (c * 2 ^ r + 2 ^ r) (length xs)
-      → ((j : ℕ) → start < j → j < end → lent means zs j ≡ plus (lent means ys j) (A.times α (lent means ys (j - 1))))
-      → ((j : ℕ) → j ≤ start → lent means zs j ≡ lent means ys j)
-      → ((j : ℕ) → end ≤ j → lent means zs j ≡ lent means ys j)
-      → Columns α xs ys c → Columns α xs zs (c + 1)
-  columns_more α xs ys zs c start end first last here before after w =
+      → Carried α ys zs start end → Columns α xs ys c → Columns α xs zs (c + 1)
+  columns_more α xs ys zs c start end first last carry w =
       let s = lent means xs in
       let next = next_column r c in record {
         done = λ j l m. ⊎_elim
-            (λ g. before j (omega arith) ∙ w.done j g m)
+            (λ g. carry.before j (omega arith) ∙ w.done j g m)
             (λ g. ⊎_elim
-            (λ e. before j (omega arith) ∙ w.rest j g ∙ carried_first α s j (ap (starts r) e ∙ starts_first r c))
+            (λ e. carry.before j (omega arith) ∙ w.rest j g ∙ carried_first α s j (ap (starts r) e ∙ starts_first r c))
             (λ ne. let in-column : c * 2 ^ r < j = omega (arith, ne) in
-            here j (omega (arith, ne)) (omega arith)
+            carry.here j (omega (arith, ne)) (omega arith)
             ∙ ap₂ (λ a b. plus a (A.times α b)) (w.rest j g) (w.rest (j - 1) (omega (arith, ne)))
             ∙ carried_inside α s j (starts_inside r c j in-column (omega arith)))
             (cases_eq j (c * 2 ^ r)))
             (cases_lt j (c * 2 ^ r));
-        rest = λ j l. after j (omega arith) ∙ w.rest j (omega arith);
+        rest = λ j l. carry.after j (omega arith) ∙ w.rest j (omega arith);
       }
 
   pub columns_all : (α : Element k) (xs zs : List X) (c : ℕ) → length xs / 2 ^ r + min 1 (length xs % 2 ^ r) ≤ c

@@ -1,10 +1,7 @@
 -- Settled weights written block by block.
-use Rattle.std.proofs.Common.{◌≡◌, ℕ, ◌+◌, ◌-◌, ◌*◌, ◌/◌, ◌%◌, ◌^◌, ◌<◌, ◌≤◌, not, List, ◌++◌, map, length, get_or, take, drop, Some, None, Option, sym, refl, ap, ◌∙◌, subst, ap₂, div-add-mod', arith}
+use Rattle.std.proofs.Common.{◌≡◌, ℕ, ◌+◌, ◌-◌, ◌*◌, ◌/◌, ◌%◌, ◌^◌, ◌<◌, not, List, length, get_or, Some, None, Option, sym, refl, ap, ◌∙◌, subst, ap₂, div-add-mod', arith}
 use native.Mathlib.Decide.{ℕ_discrete}
-use borrow.Rule.Slice.PartMut.{put_mid}
-use lib.ListN.{length-map}
-use Rattle.std.proofs.lemmas.List.{map-append, take-map, get_or_append_left, get_or-append_right, get_or-take, length-take-le}
-use Rattle.level.specs.Element.{Element, plus, zeros}
+use Rattle.level.specs.Element.{Element, plus}
 use Rattle.level.specs.Laws.{Arithmetic, Laws}
 use Rattle.multilinear.specs.Equality.{Point, entry, equality}
 use Rattle.multilinear.specs.Lent.{lent}
@@ -22,26 +19,6 @@ use Rattle.folding.proofs.Folds.{block_within}
 use Rattle.folding.proofs.Slots.{size_is}
 
 module _ {X : Type 0} {k : ℕ} (means : X → Element k) where
-  -- a lent table after a write to a part of it: before the part, and in it
-  front : (a : ℕ) (xs : List X) → a ≤ length xs → length (map means (take a xs)) ≡ a
-  front a xs room = length-map (take a xs) means ∙ length-take-le a xs room
-
-  pub before_part : (a n : ℕ) (xs ys : List X) (i : ℕ) → i < a → a ≤ length xs → lent means (put_mid a n xs ys) i ≡ lent means xs i
-  before_part a n xs ys i h room =
-      let rest = ys ++ drop n (drop a xs) in
-      let inside : i < length (map means (take a xs)) = omega (arith, front a xs room) in
-      ap (λ zs. get_or zs i (zeros k)) (map-append means (take a xs) rest) ∙ get_or_append_left (map means (take a xs)) (map means rest) (zeros k) i inside
-      ∙ ap (λ zs. get_or zs i (zeros k)) (sym (take-map means a xs)) ∙ get_or-take a (map means xs) i (zeros k) h
-
-  pub in_part : (a n : ℕ) (xs ys : List X) (j : ℕ) → j < length ys → a ≤ length xs → lent means (put_mid a n xs ys) (a + j) ≡ lent means ys j
-  in_part a n xs ys j h room =
-      let tail = drop n (drop a xs) in
-      let back : a + j - a ≡ j = omega arith in
-      let inside : j < length (map means ys) = omega (arith, length-map ys means) in
-      ap (λ zs. get_or zs (a + j) (zeros k)) (map-append means (take a xs) (ys ++ tail))
-      ∙ get_or-append_right (map means (take a xs)) (map means (ys ++ tail)) a (a + j) (zeros k) (front a xs room) (omega arith)
-      ∙ ap₂ (λ zs i. get_or zs i (zeros k)) (map-append means ys tail) back ∙ get_or_append_left (map means ys) (map means tail) (zeros k) j inside
-
   module _ {A : Arithmetic k} (laws : Laws A) where
     -- the sums of a scaled table for the inner entries
     pub block_settled : (f : ℕ → Element k) (a x y : Element k) → x ≡ subset_sum (scaled A f a) y → x ≡ subset_sum f (A.times a y)

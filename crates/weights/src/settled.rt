@@ -7,7 +7,7 @@ ghost use Rattle.basis.specs.Tables.{num_bytes, Tabulated};
 ghost use Rattle.equality.specs.Tables.{Factors};
 
 use basis::coordinate_sums::{CoordinateSums, scaled_sums_into, tabulate};
-use basis::width::num_bytes;
+use coordinates::num_bytes;
 use equality::factored::FactoredEquality;
 use level::level::Level;
 use tensor_rows::rows::clear;
@@ -67,10 +67,11 @@ fn settle_blocks<L: Level>(
     ensures { (f : ℕ → Element L.Level.log) → Tabulated f (lent L.means sums.now) → (b j : ℕ) → b < length equality.now.outer.now → j < length equality.now.inner.now → lent L.means table.new (b * length equality.now.inner.now + j) ≡ subset_sum f (L.arithmetic.times (lent L.means equality.now.outer.now b) (lent L.means equality.now.inner.now j)) }
 {
     let len = equality.block_len();
-    let outer = equality.outer;
     let inner = equality.inner;
-    for b in 0..outer.len() {
-        settle_at(table, b * len, inner, outer[b], sums, scaled);
+
+    // A place of the table for each block, since of what is written through `chunks_exact_mut` a proof knows only the length.
+    for (block, weight) in equality.outer.iter().enumerate() {
+        settle_at(table, block * len, inner, *weight, sums, scaled);
     }
 }
 

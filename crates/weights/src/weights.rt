@@ -8,21 +8,13 @@ ghost use Rattle.ring_switch.specs.BatchingLaws.{RowsWithin};
 ghost use Rattle.basis.specs.Tables.{num_bytes};
 ghost use Rattle.equality.specs.Tables.{Factors};
 ghost use Rattle.plain.specs.Steps.{steps};
-ghost use Rattle.weights.specs.Stepped.{stepped};
 
 use crate::combined::combine_weights;
 use crate::settled::settled_weights;
+use columns::Columns;
 use equality::factored::FactoredEquality;
 use level::level::Level;
 use plain::stepping::Stepping;
-
-// Combines settled weights under a batching's successor tensors.
-fn combine<L: Level>(table: &mut [L], stepping: Stepping<L>)
-    requires { stepping.rows < 64 }
-    ensures { (i : ℕ) → i < length table.old → lent L.means table.new i ≡ stepped L.arithmetic stepping.rows (L.means stepping.challenge) (lent L.means table.old) i }
-{
-    combine_weights(table, stepping.rows, stepping.challenge);
-}
 
 // Writes the weight of every packed element of a slot whose equality table the factors hold. The scratch has `settled::scratch_len`
 // elements and is left zero.
@@ -43,6 +35,6 @@ pub fn weights_over<L: Level>(
 {
     settled_weights(table, equality, eq_batch, scratch);
     if let Some(stepping) = stepping {
-        combine(table, stepping);
+        combine_weights(table, Columns::new(stepping.rows), stepping.challenge);
     }
 }

@@ -1,4 +1,5 @@
-use Rattle.std.proofs.Common.{arith, rules}
+use Rattle.std.proofs.Common.{◌∙◌, ap, arith, rules}
+use Rattle.level.specs.Element.{plus}
 use Rattle.tensor_rows.proofs.Turns.{batched_none, batched_more}
 use Rattle.claims.proofs.Weighing.{weighed_all}
 use Rattle.claims.proofs.by_columns.weighed.Goals as goal
@@ -9,7 +10,7 @@ loop-v-init g c = search (rules, batched_none)
 pub loop-v-preserved : goal.loop-v-preserved
 loop-v-preserved g c =
     batched_more _ _ _ _ c.loop-v.v _ _ _ _ c.loop-v-test.true (omega (arith, c.requires)) c.index-columns-v.is c.index-weights-v.is
-    c.with_column-sum.ensures c.loop-v.invariant
+    (c.add-sum.ensures ∙ ap (plus _) c.mul.ensures) c.loop-v.invariant
 
 pub returns : goal.returns
 returns g c =

@@ -1,4 +1,5 @@
-use Rattle.std.proofs.Common.{ap}
+use Rattle.std.proofs.Common.{◌∙◌, ap}
+use Rattle.level.specs.Element.{plus}
 use Rattle.plain.specs.Steps.{steps}
 use Rattle.closing.proofs.Ends.{initial_alone, initial_stepped, sent_weighted}
 use Rattle.closing.proofs.sums.initial_sum.Goals as goal
@@ -15,5 +16,5 @@ returns-in-Some g c =
     let m = g.L.Level.means in
     let b = steps m c.args.stepping in
     let value = initial_stepped g.L.Level.arithmetic _ b _ _ _ _ _ _ (ap (steps m) c.in-Some.is) c.batch_rows-sum.ensures
-    c.with_successor_rows.ensures in
+    (c.add.ensures ∙ ap (plus _) c.successor_rows.ensures) in
     record { value = value; weighted = sent_weighted g.met.L.Level.ring _ b _ _ _ _ value }

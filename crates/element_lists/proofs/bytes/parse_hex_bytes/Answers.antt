@@ -10,7 +10,7 @@ pub returns-in-Err : goal.returns-in-Err
 returns-in-Err c =
     let e = c.in-Err.ensures in
     let f = c.loop-j.invariant in (
-      c.in-Err.at,
+      c.in-Err.fault.at,
       refl,
       omega (arith, e.0),
       broken_at c.args.text.now (vec_items c.loop-j.bytes) c.loop-j.j _ f.count f.octets f.text_is e.0 e.1 e.2 e.3,

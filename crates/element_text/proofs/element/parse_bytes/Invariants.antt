@@ -1,5 +1,5 @@
-use Rattle.element_text.specs.Hex.{Parsed}
+use Rattle.element_text.proofs.Parsing.{ParsedIn}
 use Rattle.element_text.proofs.element.parse_bytes.Given as goal
 
 abbrev pub invariant-loop-j : goal.invariant-loop-j
-invariant-loop-j l = Parsed l.j l.text l.bytes
+invariant-loop-j l = ParsedIn l.count l.j l.text l.byte-items

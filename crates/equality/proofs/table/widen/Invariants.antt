@@ -5,4 +5,4 @@ use Rattle.equality.proofs.table.widen.Given as goal
 abbrev pub invariant-loop-i : goal.invariant-loop-i
 invariant-loop-i g l =
     let m = g.L.Level in
-    Widening m.arithmetic (m.means l.x) l.half l.i (lent m.means l.initial.table) (lent m.means l.table)
+    Widening m.arithmetic (m.means l.x) l.i (lent m.means l.initial.low) (lent m.means l.initial.high) (lent m.means l.low) (lent m.means l.high)

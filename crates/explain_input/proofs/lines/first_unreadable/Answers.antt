@@ -1,18 +1,27 @@
-use Rattle.std.proofs.Common.{sym, ap, ◌∙◌, add-one, arith}
-use Rattle.explain_input.specs.Keys.{lines, unreadable}
-use Rattle.explain_input.proofs.Collecting.{unreadable_more, unreadable_here, unreadable_end}
+use Rattle.std.proofs.Common.{◌≡◌, true, false, [], refl, sym, ◌∙◌, inl, arith, rules}
+use borrow.Author.Tests.{tests}
+use Rattle.std.proofs.lemmas.Iterator.{IsFirst-from_position}
+use Rattle.std.proofs.lemmas.Iterator.Consumers.{YieldsList-from_first}
+use Rattle.explain_input.specs.Keys.{lines, readable}
+use Rattle.explain_input.proofs.Collecting.{few_lines, unreadable_at, unreadable_none}
 use Rattle.explain_input.proofs.lines.first_unreadable.Goals as goal
 
-pub returns-then-not-is_readable : goal.returns-then-not-is_readable
-returns-then-not-is_readable c =
-    sym (unreadable_here c.loop-rest.number _ _ _ c.split_line.ensures.first c.if-not-is_readable.ensures) ∙ c.loop-rest.invariant.0
+pub position-requires-clause-fits : goal.position-requires-clause-fits
+position-requires-clause-fits c = inl (omega (arith, few_lines c.args.text.now))
 
-pub loop-rest-preserved : goal.loop-rest-preserved
-loop-rest-preserved c = (
-  ap (λ n. unreadable n (lines c.split_line.result.1.now)) (add-one c.loop-rest.number)
-      ∙ sym (unreadable_more c.loop-rest.number _ _ _ c.split_line.ensures.first c.if-not-is_readable.ensures) ∙ c.loop-rest.invariant.0,
-  omega (arith, c.split_line.ensures.shorter, c.loop-rest.invariant.1),
-)
+pub returns-in_err-i : goal.returns-in_err-i
+returns-in_err-i c =
+    let ls = lines c.args.text.now in
+    let none = IsFirst-from_position c.position.new.self _ _ (λ l. readable l ≡ false) (λ l. readable l ≡ true) c.in_err-i.ensures.ran (YieldsList-from_first (λ x. x.now) (λ s. lines s.0.now) ls refl)
+    (λ x q k. search (rules, tests)) (λ x q k. search (rules, tests)) in
+    c.from_residual.ensures ∙ sym (unreadable_none 1 ls (λ k h. none k [] (omega arith) h))
+
+pub overflow_add-result : goal.overflow_add-result
+overflow_add-result c = omega (arith, few_lines c.args.text.now, c.in_ok-i.ensures.bound)
 
 pub returns : goal.returns
-returns c = sym (unreadable_end c.loop-rest.number c.loop-rest.rest.now c.loop-rest-test.ensures) ∙ c.loop-rest.invariant.0
+returns c =
+    let ls = lines c.args.text.now in
+    let found = IsFirst-from_position c.position.new.self _ _ (λ l. readable l ≡ false) (λ l. readable l ≡ true) c.in_ok-i.ensures.ran (YieldsList-from_first (λ x. x.now) (λ s. lines s.0.now) ls refl)
+    (λ x q k. search (rules, tests)) (λ x q k. search (rules, tests)) in
+    sym (unreadable_at 1 ls c.in_ok-i.i found.0 (found.1 []) (λ k h. found.2 k [] (omega arith) h))

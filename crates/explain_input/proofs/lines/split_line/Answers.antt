@@ -1,30 +1,22 @@
-use Rattle.std.proofs.Common.{◌≡◌, ℕ, suc, ◌+◌, ◌-◌, List, [], ◌∷◌, length, take, drop, sym, ap, ◌∙◌, ap₂, add-one, arith}
-use native.Mathlib.Nat.{sub-zero}
-use Rattle.std.proofs.lemmas.List.{take_rest, take_all, drop_all, length-drop}
+use Rattle.std.proofs.Common.{◌≡◌, ◌≢◌, suc, ◌+◌, ◌-◌, ◌∷◌, length, take, drop, sym, ap, ◌∙◌, add-one, arith, rules}
+use borrow.Author.Tests.{tests}
+use Rattle.std.proofs.lemmas.List.{take_rest}
+use Rattle.std.proofs.lemmas.Iterator.{YieldsList-from_slice, IsFirst-from_position}
 use Rattle.explain_input.specs.Keys.{lines}
 use Rattle.explain_input.proofs.Splitting.{lines_at, lines_one}
 use Rattle.explain_input.proofs.lines.split_line.Goals as goal
 
-pub returns-then-end-text : goal.returns-then-end-text
-returns-then-end-text c =
+pub returns-in-Some : goal.returns-in-Some
+returns-in-Some c =
     let text = c.args.text.now in
-    let end = c.line_end-end.result in
-    let e = c.line_end-end.ensures in
+    let end = c.in-Some.end in
+    let found = IsFirst-from_position _ _ _ (λ x. x ≡ 10) (λ x. x ≢ 10) c.in-Some.ensures.ran (YieldsList-from_slice text cc) (λ x q k. search (rules, tests)) (λ x q k. search (rules, tests)) in
     let after : drop (suc end) text ≡ take (length text - (end + 1)) (drop (end + 1) text) = ap (λ n. drop n text) (sym (add-one end)) ∙ sym (take_rest text (end + 1)) in
-    record {
-      first = lines_at text end (omega arith) e.before (e.found (omega arith)) ∙ ap₂ (λ (n : ℕ) (l : List ℕ). take n text ∷ lines l) (sym (sub-zero end)) after;
-      shorter = omega (arith, ap length after, length-drop (suc end) text);
-    }
+    lines_at text end found.0 (λ i h. found.2 i 0 (omega arith) h) (found.1 0) ∙ ap (λ l. take end text ∷ lines l) after
 
-pub returns-else-end-text : goal.returns-else-end-text
+pub returns-in-None : goal.returns-in-None
 unfolding lines
-returns-else-end-text c =
+returns-in-None c =
     let text = c.args.text.now in
-    let end = c.line_end-end.result in
-    let whole : end ≡ length text = omega (arith, c.line_end-end.ensures.within) in
-    let after : take (length text - end) (drop end text) ≡ [] = take_rest text end ∙ drop_all end text (omega arith) in
-    let line : text ≡ take (end - 0) text = sym (take_all (end - 0) text (omega arith)) in
-    record {
-      first = lines_one text c.requires (λ i h. c.line_end-end.ensures.before i (omega arith)) ∙ ap₂ (λ (l m : List ℕ). l ∷ lines m) line (sym after);
-      shorter = omega (arith, ap length after, c.requires);
-    }
+    let none = IsFirst-from_position _ _ _ (λ x. x ≡ 10) (λ x. x ≢ 10) c.in-None.ensures.ran (YieldsList-from_slice text cc) (λ x q k. search (rules, tests)) (λ x q k. search (rules, tests)) in
+    lines_one text c.requires (λ i h. none i 0 (omega arith) h)

@@ -13,10 +13,10 @@ returns g c =
     let m = g.L.Level in
     let b = c.args.batched.now in
     let f : ℕ → List ℕ = weight_line m.arithmetic (batching_of m.means b) in
-    let n = length b.slot.now in
-    let written = string_bytes c.element_line.new.out in
+    let n = length b.batching.slot.now in
+    let written = string_bytes c.line.new.out in
     let initial = line (codes "initial") (element_text (m.means b.initial)) in
-    let same : n ≡ length (map m.means b.slot.now) = sym (length-map b.slot.now m.means) in
-    joined (string_bytes c.args.out.now) written (string_bytes c.weight_lines.new.out) initial (lines_below (2 ^ length (map m.means b.slot.now)) f)
-    c.in_ok-element_line.ensures
+    let same : n ≡ length (map m.means b.batching.slot.now) = sym (length-map b.batching.slot.now m.means) in
+    joined (string_bytes c.args.out.now) written (string_bytes c.weight_lines.new.out) initial (lines_below (2 ^ length (map m.means b.batching.slot.now)) f)
+    c.in_ok-line.ensures
     (subst (λ (i : ℕ). string_bytes c.weight_lines.new.out ≡ written ++ lines_below (2 ^ i) f) same c.in_ok-weight_lines.ensures)

@@ -11,9 +11,6 @@ slice_bounds-leading_run-end g c =
     let xs = c.args.point.now in
     omega (arith, length-take c.prefix_limit.result xs, limit_within g.L.Level.log (length xs) c.args.view, c.prefix_limit.ensures)
 
-pub leading_run-requires : goal.leading_run-requires
-leading_run-requires g c = omega (arith, length-take c.prefix_limit.result c.args.point.now, c.requires.1)
-
 pub returns : goal.returns
 returns g c =
     let m = g.L.Level in

@@ -5,4 +5,4 @@ use Rattle.plain.proofs.opening.leading_run.Given as goal
 abbrev pub invariant-loop-x : goal.invariant-loop-x
 invariant-loop-x g l =
     let m = g.L.Level in
-    (l.count ≡ l.x-index) × SoFar m.arithmetic (map m.means l.point) l.count l.address
+    (l.run.count ≡ l.x-index) × SoFar m.arithmetic (map m.means l.point) l.run.count l.run.address

@@ -1,32 +1,15 @@
-use Rattle.std.proofs.Common.{◌≡◌, ◌-◌, ◌<◌, map, length, arith}
-use lib.ListN.{length-map}
-use Rattle.plain.proofs.Entry.{entry_begins, entry_more, entry_ends, rest_more}
-use Rattle.plain.proofs.Means.{means_at}
+use Rattle.std.proofs.Common.{ap, ◌∙◌}
+use Rattle.plain.proofs.Entry.{factored_none, factored_more}
 use Rattle.plain.proofs.points.equality_entry.Goals as goal
 
-pub loop-i-init : goal.loop-i-init
-loop-i-init g c =
+pub loop-x-init : goal.loop-x-init
+loop-x-init g c =
     let m = g.L.Level in
-    let xs = c.args.point.now in
-    let n : length xs - length xs ≡ 0 = omega arith in (
-      entry_begins m.arithmetic (map m.means xs) (length xs) _ c.args.index (omega (arith, length-map xs m.means)) c.one-product.ensures,
-      rw n (omega arith),
-    )
+    let all = ap (λ r. r.iter.rest.now) c.into_iter-x-iterator.ensures.into_iter_gives ∙ ap (λ i. i.rest.now) c.rev-x-items.ensures.source ∙ c.iter.ensures.rest in
+    factored_none m.arithmetic m.means c.args.point.now c.args.index _ _ all c.one-product.ensures
 
-pub loop-i-preserved : goal.loop-i-preserved
-loop-i-preserved g c =
+pub loop-x-preserved : goal.loop-x-preserved
+loop-x-preserved g c =
     let m = g.L.Level in
-    let xs = c.args.point.now in
-    let i = c.loop-i.i in
-    let inv = c.loop-i.invariant in
-    let pos : 0 < i = omega arith in
-    let f = c.coordinate_factor.ensures in (
-      entry_more m.arithmetic (map m.means xs) (length xs) i _ c.loop-i.rest _ _ _ _ (length-map xs m.means) pos c.loop-i.auto.i
-          (means_at m.means xs (i - 1) _ _ (omega arith) c.index-point-i.is) f.at_one f.at_zero inv.0 inv.1 c.mul-product.ensures,
-      rest_more (length xs) i _ _ pos c.loop-i.auto.i inv.1,
-    )
-
-pub returns : goal.returns
-returns g c =
-    let m = g.L.Level in
-    entry_ends m.arithmetic (map m.means c.args.point.now) c.loop-i.i c.args.index _ c.loop-i-test.false c.loop-i.invariant.0
+    let f = c.coordinate_factor.ensures in
+    factored_more m.arithmetic m.means c.args.point.now c.args.index _ _ _ _ _ _ _ c.loop-x.invariant c.in-Some.ensures.steps f.at_one f.at_zero c.mul-product.ensures

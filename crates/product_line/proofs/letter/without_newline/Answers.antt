@@ -1,12 +1,10 @@
-use Rattle.std.proofs.Common.{arith}
-use Rattle.product_line.proofs.Endings.{ended, empty, open_ended}
+use Rattle.std.proofs.Common.{[], ◌∷◌}
+use Rattle.std.proofs.lemmas.Bool.Decides.{Decides-eqb}
+use Rattle.std.proofs.lemmas.Slice.Eq.{strip_suffix_is}
+use Rattle.product_line.proofs.Endings.{stripped}
 use Rattle.product_line.proofs.letter.without_newline.Goals as goal
 
-pub returns-then-n-eq0 : goal.returns-then-n-eq0
-returns-then-n-eq0 c = empty c.args.line.now (omega arith)
-
-pub returns-then-line-n-ne10 : goal.returns-then-line-n-ne10
-returns-then-line-n-ne10 c = open_ended c.args.line.now (omega arith)
-
 pub returns : goal.returns
-returns c = ended c.args.line.now (omega arith) (omega arith)
+returns c =
+    rw c.unwrap_or.ensures
+    (stripped c.args.line c.strip_suffix.result (strip_suffix_is Decides-eqb c.args.line.now (10 ∷ []) c.strip_suffix.result c.strip_suffix.ensures.cases))

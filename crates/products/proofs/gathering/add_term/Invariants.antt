@@ -5,4 +5,4 @@ use Rattle.products.proofs.gathering.add_term.Given as goal
 abbrev pub invariant-loop-j : goal.invariant-loop-j
 invariant-loop-j g l =
     let m = g.L.Level in
-    Adding l.values (m.means l.b) l.j (lent m.means l.initial.buckets) (lent m.means l.buckets)
+    Adding l.value-items (m.means l.b) l.j (lent m.means l.initial.buckets) (lent m.means l.buckets)

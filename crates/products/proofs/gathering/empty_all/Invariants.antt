@@ -3,7 +3,7 @@ use Rattle.level.specs.Element.{zeros}
 use Rattle.multilinear.specs.Lent.{lent}
 use Rattle.products.proofs.gathering.empty_all.Given as goal
 
-abbrev pub invariant-loop-i : goal.invariant-loop-i
-invariant-loop-i g l =
+abbrev pub invariant-loop-bucket : goal.invariant-loop-bucket
+invariant-loop-bucket g l =
     let m = g.L.Level in
-    (i : ℕ) → i < l.i → lent m.means l.buckets i ≡ zeros m.log
+    (i : ℕ) → i < l.bucket-index → lent m.means l.buckets i ≡ zeros m.log

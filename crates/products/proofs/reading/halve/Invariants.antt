@@ -5,4 +5,4 @@ use Rattle.products.proofs.reading.halve.Given as goal
 abbrev pub invariant-loop-s : goal.invariant-loop-s
 invariant-loop-s g l =
     let m = g.L.Level in
-    Halving l.start l.half l.s (lent m.means l.initial.buckets) (lent m.means l.buckets) (m.means l.sum)
+    Halving l.s (lent m.means l.upper) (lent m.means l.initial.lower) (lent m.means l.lower) (m.means l.sum)

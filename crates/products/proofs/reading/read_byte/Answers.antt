@@ -3,12 +3,12 @@ use Rattle.products.proofs.ReadingBits.{reading_begins, reading_more, reading_en
 use Rattle.products.proofs.reading.read_byte.Goals as goal
 
 pub loop-i-init : goal.loop-i-init
-loop-i-init g c = reading_begins _ _ _
+loop-i-init g c = reading_begins _ _
 
 pub loop-i-preserved : goal.loop-i-preserved
 loop-i-preserved g c =
-    reading_more _ _ _ g.L.Level.means c.loop-i.i _ _ _ c.loop-i.rows _ (omega arith) (omega arith) (omega arith) c.half.ensures
+    reading_more _ g.L.Level.means c.loop-i.i _ _ _ c.loop-i.rows _ (omega arith) (omega arith) (omega arith) c.half.ensures
     c.halve.ensures.halved c.halve.ensures.upper c.loop-i.invariant
 
 pub returns : goal.returns
-returns g c = reading_ends _ _ _ c.loop-i.i _ _ (omega arith) c.loop-i.invariant
+returns g c = reading_ends _ c.loop-i.i _ _ (omega arith) c.loop-i.invariant

@@ -5,4 +5,4 @@ use Rattle.products.proofs.reading.read_byte.Given as goal
 abbrev pub invariant-loop-i : goal.invariant-loop-i
 invariant-loop-i g l =
     let m = g.L.Level in
-    Reading l.j l.i (lent m.means l.initial.buckets) (lent m.means l.buckets) (lent m.means l.initial.rows) (lent m.means l.rows)
+    Reading l.i (lent m.means l.initial.buckets) (lent m.means l.buckets) (lent m.means l.rows)

@@ -3,11 +3,11 @@ use Rattle.multilinear.proofs.Lent.{lent_read}
 use Rattle.tensor_algebra.proofs.Kept.{where_in, where_out}
 use Rattle.products.proofs.shifting.entry_before.Goals as goal
 
-pub returns-then-starts_column : goal.returns-then-starts_column
-returns-then-starts_column g c =
-    c.zero.ensures ∙ sym (where_out _ _ (ap not (sym c.starts_column.ensures ∙ c.if-starts_column.true)))
+pub returns-then-starts : goal.returns-then-starts
+returns-then-starts g c =
+    c.zero.ensures ∙ sym (where_out _ _ (ap not (sym c.starts.ensures ∙ c.if-starts.true)))
 
-pub returns-else-starts_column : goal.returns-else-starts_column
-returns-else-starts_column g c =
+pub returns-else-starts : goal.returns-else-starts
+returns-else-starts g c =
     lent_read g.L.Level.means c.args.inner.now _ _ (omega arith) c.index-inner-j.is
-    ∙ sym (where_in _ _ (ap not (sym c.starts_column.ensures ∙ c.if-starts_column.false)))
+    ∙ sym (where_in _ _ (ap not (sym c.starts.ensures ∙ c.if-starts.false)))

@@ -7,4 +7,4 @@ use Rattle.products.proofs.shifting.shifted.Given as goal
 abbrev pub invariant-loop-j : goal.invariant-loop-j
 invariant-loop-j g l =
     let m = g.L.Level in
-    (j : ℕ) → j < l.j → lent m.means l.out j ≡ where_set (not (starts l.rows j)) (lent m.means l.inner (j - 1))
+    (j : ℕ) → j < l.j → lent m.means l.out j ≡ where_set (not (starts l.columns.row_variables j)) (lent m.means l.inner (j - 1))

@@ -20,7 +20,7 @@ batch-requires g c =
     let few : named view ≤ 63 = omega (arith, c.requires.rows, c.requires.short) in
     record {
       narrow = c.requires.narrow;
-      rows = rows_few view α _ 63 (c.stepping_of-stepping.ensures ∙ ap (λ (r : Option ℕ). stepped r α) c.kept_row_variables.ensures) few;
+      rows = rows_few view α _ 63 (c.stepping_of.ensures ∙ ap (λ (r : Option ℕ). stepped r α) c.kept_row_variables.ensures) few;
       count = c.requires.count;
       batching = batching_width m.log view c.args.challenge (length c.args.batching.now) c.requires.narrow (sym c.requires.passed);
       tensor = c.requires.tensor;
@@ -38,11 +38,11 @@ returns g c =
     let point = c.args.point.now in
     let p = map m.means point in
     let b = map m.means c.args.batching.now in
-    let slot = c.slot.result.1.now in
+    let slot = c.slot.result.coordinates.now in
     let spans = c.slot.ensures.coordinates in
     let rows : named view ≤ length p = omega (arith, length-map point m.means, c.requires.rows) in
-    let s = steps m.means c.stepping_of-stepping.result in
-    let e : s ≡ stepped (kept m.log view) α = c.stepping_of-stepping.ensures ∙ ap (λ (r : Option ℕ). stepped r α) c.kept_row_variables.ensures in
+    let s = steps m.means c.stepping_of.result in
+    let e : s ≡ stepped (kept m.log view) α = c.stepping_of.ensures ∙ ap (λ (r : Option ℕ). stepped r α) c.kept_row_variables.ensures in
     let width = batching_width m.log view c.args.challenge (length c.args.batching.now) c.requires.narrow (sym c.requires.passed) in
     let t = c.in_ok-tables.ensures in
     record {

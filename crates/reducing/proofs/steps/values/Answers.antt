@@ -18,4 +18,4 @@ returns g c bits binary worked =
     same_values _ _ _ _ _ _
     (c.in_ok-incoming.ensures p c.args.view bits binary absorbed (subst (Tabulated m.means m.arithmetic m.arithmetic.unit (low p)) (sym c.as_slice.ensures.value) table) worked)
     (c.in_ok-successor.ensures p bits binary absorbed rows (subst (Tabulated m.means m.arithmetic m.arithmetic.unit (low p)) (sym c.as_slice-2.ensures.value) table) worked)
-    (same_prefix _ _ _ c.fixed_prefix-prefix.ensures.count c.fixed_prefix-prefix.ensures.address)
+    (same_prefix _ _ _ c.fixed_prefix.ensures.count c.fixed_prefix.ensures.address)

@@ -1,5 +1,6 @@
 use Rattle.std.proofs.Common.{◌-◌, ◌≤◌, map, length, vec_items, refl, ap, ◌∙◌, subst, arith, length-drop}
 use lib.ListN.{length-map}
+use Rattle.std.proofs.lemmas.Result.{IfOk-weaker}
 use Rattle.equality.specs.Tables.{Tabulated}
 use Rattle.reduction.proofs.Working.{low_map, low_count}
 use Rattle.reduction.proofs.opened_claims.low_equality.Goals as goal
@@ -12,6 +13,7 @@ returns g c =
     let m = g.L.Level in
     let point = c.args.point.now in
     let low = ap (map m.means) c.low_of.ensures ∙ low_map m.means point _ refl in
-    let table = subst (λ q. Tabulated m.means m.arithmetic m.arithmetic.unit q (vec_items c.in_ok-table.table)) low c.in_ok-table.ensures in
     let absorbed : m.log ≤ length (map m.means point) = omega (arith, length-map point m.means, c.requires.1) in
-    record { table = table; count = low_count (map m.means point) _ absorbed table.size }
+    let r = c.equality_of.result in
+    let table = IfOk-weaker r _ _ (λ v. subst (λ q. Tabulated m.means m.arithmetic m.arithmetic.unit q (vec_items v)) low) c.equality_of.ensures in
+    record { table = table; count = IfOk-weaker r _ _ (λ v t. low_count (map m.means point) _ absorbed t.size) table }

@@ -5,8 +5,8 @@ use Rattle.reduction.proofs.tensors.tensor_of.Goals as goal
 
 pub returns : goal.returns
 returns g c =
-    let whole = filled c.tensor.new.rows c.in_ok-rows.rows.items c.in_ok-rows.rows.len (c.tensor.auto.rows ∙ c.as_mut_slice.ensures.len) in
+    let whole = filled c.opened_tensor.new.rows c.in_ok-rows.rows.items c.in_ok-rows.rows.len (c.opened_tensor.auto.rows ∙ c.as_mut_slice.ensures.len) in
     record {
-      count = sym (ap length whole) ∙ c.tensor.auto.rows ∙ ap length c.as_mut_slice.ensures.value ∙ c.in_ok-rows.ensures ∙ c.dimension.ensures;
-      rows = λ p view bits opens. sym (ap (lent g.L.Level.means) whole) ∙ c.tensor.ensures.rows p view bits opens;
+      count = sym (ap length whole) ∙ c.opened_tensor.auto.rows ∙ ap length c.as_mut_slice.ensures.value ∙ c.in_ok-rows.ensures ∙ c.width.ensures;
+      rows = λ p view bits opens. sym (ap (lent g.L.Level.means) whole) ∙ c.opened_tensor.ensures.rows p view bits opens;
     }

@@ -1,21 +1,18 @@
-use Rattle.std.proofs.Common.{◌≡◌, ℕ, ◌≤◌, map, length, Some, ap, ◌∙◌, subst, arith}
+use Rattle.std.proofs.Common.{◌≡◌, ℕ, ◌≤◌, map, length, Some, sym, ap, ◌∙◌, subst, arith}
 use lib.ListN.{length-map}
-use Rattle.folding.specs.Openings.{Opens}
+use Rattle.folding.specs.Openings.{SlotOpens}
 use Rattle.plain.specs.Openings.{named}
 use Rattle.ring_switch.specs.Opening.{View, kept}
+use Rattle.reduction.specs.Columns.{WholeColumns}
 use Rattle.reduction.proofs.Working.{kept_some, opens_at, slot_inside, slot_factors, filled_inner, columns_whole}
 use Rattle.reduction.proofs.work.work.Goals as goal
 
-pub tensor_of-requires : goal.tensor_of-requires
-tensor_of-requires g c =
+pub of_packed-table-requires : goal.of_packed-table-requires
+of_packed-table-requires g c =
     let m = g.L.Level in
     let s = c.slot-start.ensures in
-    let e = c.reading-equality.ensures in
-    record {
-      wide = c.requires.wide;
-      narrow = c.requires.narrow;
-      slot = slot_inside m.means g.met.L.Level.ring c.args.point.now _ _ _ c.args.view s.coordinates c.in_ok-factors.ensures _ _ _ _ s.start c.requires.elements e.outer e.inner;
-    }
+    let e = c.reading.ensures in
+    slot_inside m.means g.met.L.Level.ring c.args.point.now _ _ _ c.args.view s.coordinates c.in_ok-factors.ensures _ _ _ _ s.start c.requires.elements e.outer e.inner
 
 pub successor_tensors-requires : goal.successor_tensors-requires
 successor_tensors-requires g c =
@@ -23,14 +20,17 @@ successor_tensors-requires g c =
     let laws = g.met.L.Level.ring in
     let point = c.args.point.now in
     let s = c.slot-start.ensures in
-    let e = c.reading-equality.ensures in
+    let t = c.of_packed-table.ensures in
+    let outer = t.outer ∙ c.reading.ensures.outer in
+    let inner = t.inner ∙ c.reading.ensures.inner in
     let f = c.in_ok-factors.ensures in
     record {
       wide = c.requires.wide;
       narrow = c.requires.narrow;
-      filled = filled_inner m.means laws point _ _ _ c.args.view s.coordinates f _ e.inner;
-      slot = slot_inside m.means laws point _ _ _ c.args.view s.coordinates f _ _ _ _ s.start c.requires.elements e.outer e.inner;
-      columns = columns_whole m.means laws point _ _ _ c.args.view s.coordinates f _ _ _ e.outer e.inner c.kept_row_variables-kept.ensures c.requires.rows c.requires.short;
+      filled = filled_inner m.means laws point _ _ _ c.args.view s.coordinates f _ inner;
+      columns =
+          subst (WholeColumns _) (sym c.of_packed-table.result.matched)
+          (columns_whole m.means laws point _ _ _ c.args.view s.coordinates f _ _ _ outer inner c.kept_row_variables-kept.ensures c.requires.rows c.requires.short);
     }
 
 pub returns : goal.returns
@@ -41,11 +41,13 @@ returns g c bits same =
     let p = map m.means point in
     let view = c.args.view in
     let s = c.slot-start.ensures in
-    let e = c.reading-equality.ensures in
+    let e = c.reading.ensures in
     let f = c.in_ok-factors.ensures in
     let opens = opens_at m.means laws point _ _ _ view s.coordinates f _ _ _ _ s.start c.requires.elements e.outer e.inner bits same in
-    let under : (q : ℕ) → view ≡ Some q → Opens m.means m.arithmetic p (Some q) bits c.args.packed.now c.slot-start.result.0 c.reading-equality.result.outer.now c.reading-equality.result.inner.now =
-    λ q v. subst (λ (w : View). Opens m.means m.arithmetic p w bits c.args.packed.now c.slot-start.result.0 c.reading-equality.result.outer.now c.reading-equality.result.inner.now) v opens in
+    let table = c.of_packed-table.result in
+    let cut = c.of_packed-table.ensures.opens p view bits opens in
+    let under : (q : ℕ) → view ≡ Some q → SlotOpens m.means m.arithmetic p (Some q) bits table.values.now table.equality.outer.now table.equality.inner.now =
+    λ q v. subst (λ (w : View). SlotOpens m.means m.arithmetic p w bits table.values.now table.equality.outer.now table.equality.inner.now) v cut in
     let within : (q : ℕ) → view ≡ Some q → q ≤ length p = λ q v. omega (arith, length-map point m.means, ap named v, c.requires.rows) in
     let t = c.in_ok-carry.ensures in
     record {
@@ -53,7 +55,7 @@ returns g c bits same =
       tensor_rows = c.in_ok-tensor.ensures.count;
       carry_rows = t.carry_rows;
       last_rows = t.last_rows;
-      tensor_is = c.in_ok-tensor.ensures.rows p view bits opens;
+      tensor_is = c.in_ok-tensor.ensures.rows p view bits cut;
       carry_is = λ q v h. t.carry p q bits (under q v) (within q v) (c.kept_row_variables-kept.ensures ∙ ap (kept m.log) v ∙ kept_some m.log q h);
       last_is = λ q v h. t.last p q bits (under q v) (within q v) (c.kept_row_variables-kept.ensures ∙ ap (kept m.log) v ∙ kept_some m.log q h);
     }

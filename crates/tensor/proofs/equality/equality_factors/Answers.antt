@@ -1,16 +1,27 @@
-use Rattle.std.proofs.Common.{arith, rules}
+use Rattle.std.proofs.Common.{length, arith, rules}
+use Rattle.std.proofs.lemmas.List.{length_push}
+use Rattle.std.proofs.lemmas.Slice.Zip.{zip_turn, zip_end}
 use Rattle.tensor.proofs.Folds.{factors_none, factors_more, factors_all}
 use Rattle.tensor.proofs.equality.equality_factors.Goals as goal
 
-pub loop-i-init : goal.loop-i-init
-loop-i-init g c = (search (rules, factors_none), search rules)
+pub loop-a-init : goal.loop-a-init
+loop-a-init g c = (search (rules, factors_none), search rules)
 
-pub loop-i-preserved : goal.loop-i-preserved
-loop-i-preserved g c =
+pub loop-a-preserved : goal.loop-a-preserved
+loop-a-preserved g c =
+    let xs = c.args.point.now in
+    let ys = c.args.other.now in
+    let t = zip_turn xs ys c.loop-a.yielded c.into_iter-a-iterator.result c.loop-a.a-iterator c.next.new.self _ (cc) (cc) c.loop-a.yielded_by _ c.in-Some.is c.next.ensures.steps in
     let made = c.mul_equality_factor.ensures in (
-      factors_more _ _ _ _ _ _ _ c.loop-i.i _ _ c.loop-i-test.true (omega (arith, c.requires.points)) c.index-point-i.is c.index-other-i.is made.rows c.loop-i.invariant.0,
+      factors_more _ _ _ _ _ _ _ (length c.loop-a.yielded) _ _ _ t.0 t.1 (t.2 _) (t.3 _) (length_push c.loop-a.yielded _) made.rows c.loop-a.invariant.0,
       made.scratch,
     )
 
 pub returns : goal.returns
-returns g c = record { rows = search (rules, factors_all); scratch = search rules }
+returns g c =
+    let xs = c.args.point.now in
+    let ys = c.args.other.now in
+    let t = zip_end xs ys c.loop-a.yielded c.into_iter-a-iterator.result c.loop-a.a-iterator c.next.new.self _ (cc) (cc) c.loop-a.yielded_by c.in-None.is c.next.ensures.steps in record {
+      rows = factors_all _ _ _ _ _ _ (length c.loop-a.yielded) (omega (arith, c.requires.points)) c.loop-a.invariant.0;
+      scratch = search rules;
+    }

@@ -1,13 +1,13 @@
-use Rattle.std.proofs.Common.{◌≡◌, map}
+use Rattle.std.proofs.Common.{◌≡◌, map, length}
 use Rattle.multilinear.specs.Lent.{lent}
 use Rattle.tensor_algebra.specs.Tensor.{nothing, equality_factors}
 use Rattle.tensor.proofs.Folds.{factors_from}
 use Rattle.tensor.proofs.equality.equality_factors.Given as goal
 
-abbrev pub invariant-loop-i : goal.invariant-loop-i
-invariant-loop-i g l =
+abbrev pub invariant-loop-a : goal.invariant-loop-a
+invariant-loop-a g l =
     let m = g.L.Level in
     let means = m.means in
-    (factors_from means m.arithmetic l.point l.other l.i (lent means l.rows)
+    (factors_from means m.arithmetic l.point l.other (length l.yielded) (lent means l.rows)
     ≡ equality_factors m.arithmetic (map means l.point) (map means l.other) (lent means l.initial.rows))
     × (lent means l.scratch ≡ nothing)

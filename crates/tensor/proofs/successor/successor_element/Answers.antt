@@ -1,17 +1,36 @@
-use Rattle.std.proofs.Common.{arith, rules}
-use Rattle.tensor.proofs.Folds.{folded_none, folded_more, folded_all}
+use Rattle.std.proofs.Common.{◌-◌, ◌++◌, [], ◌∷◌, length, reverse, arith, rules}
+use Rattle.std.proofs.lemmas.Iterator.{YieldsList-from_zip}
+use Rattle.std.proofs.lemmas.Iterator.Adapters.{YieldsList-from_rev_slice}
+use Rattle.std.proofs.lemmas.Iterator.Consumers.{YieldsList-turn, YieldsList-end}
+use Rattle.std.proofs.lemmas.List.{length-reverse, length_push}
+use Rattle.std.proofs.lemmas.Slice.Zip.{length-zip}
+use Rattle.tensor.proofs.Folds.{folded_none, folded_more, folded_all, from_last}
 use Rattle.tensor.proofs.successor.successor_element.Goals as goal
 
-pub loop-i-init : goal.loop-i-init
-loop-i-init g c = (folded_none _ _ _ _ _ _ _ _ (omega arith) (omega (arith, c.requires.points)) c.clear.ensures c.one.ensures c.one-2.ensures, c.clear-2.ensures)
+pub loop-a-init : goal.loop-a-init
+loop-a-init g c = (folded_none _ _ _ _ _ _ _ _ (omega arith) (omega (arith, c.requires.points)) c.clear.ensures c.one.ensures c.one-2.ensures, c.clear-2.ensures)
 
-pub loop-i-preserved : goal.loop-i-preserved
-loop-i-preserved g c =
+pub loop-a-preserved : goal.loop-a-preserved
+loop-a-preserved g c =
+    let xs = c.args.point.now in
+    let ys = c.args.other.now in
+    let n = length c.loop-a.yielded in
+    let t = YieldsList-turn (YieldsList-from_zip {s = c.into_iter-a-iterator.result} (YieldsList-from_rev_slice xs (cc)) (YieldsList-from_rev_slice ys (cc))) c.loop-a.yielded c.loop-a.a-iterator c.loop-a.yielded_by _ c.next.new.self
+    (c.in-Some.a, c.in-Some.b) c.in-Some.is c.next.ensures.steps in
+    let here = from_last xs ys n c.in-Some.a.now c.in-Some.b.now c.requires.points t.0 t.1 in
     let made = c.settle.ensures in
     let carried = c.passed-carry.ensures in (
-      folded_more _ _ _ _ c.loop-i.i _ _ _ _ _ _ _ _ (omega arith) c.loop-i.auto.i c.requires.points c.index-point-i.is c.index-other-i.is made.rows carried.first carried.second c.loop-i.invariant.0,
+      folded_more _ _ _ _ (length xs - n) (length xs - length (c.loop-a.yielded ++ (c.in-Some.a, c.in-Some.b) ∷ [])) _ _ _ _ _ _ _ _ (omega (arith, length_push c.loop-a.yielded (c.in-Some.a, c.in-Some.b))) (omega (arith, here.0)) (omega arith) c.requires.points here.1 here.2 made.rows carried.first carried.second c.loop-a.invariant.0,
       made.scratch,
     )
 
 pub returns : goal.returns
-returns g c = record { rows = search (rules, folded_all); scratch = search rules }
+returns g c =
+    let xs = c.args.point.now in
+    let ys = c.args.other.now in
+    let t = YieldsList-end (YieldsList-from_zip {s = c.into_iter-a-iterator.result} (YieldsList-from_rev_slice xs (cc)) (YieldsList-from_rev_slice ys (cc))) c.loop-a.yielded c.loop-a.a-iterator c.loop-a.yielded_by _ c.next.new.self c.in-None.is c.next.ensures.steps in
+    let all = length-zip (reverse xs) (reverse ys) in
+    record {
+      rows = folded_all _ _ _ _ _ _ _ _ (omega (arith, t.1, all, length-reverse xs, length-reverse ys)) c.loop-a.invariant.0;
+      scratch = search rules;
+    }

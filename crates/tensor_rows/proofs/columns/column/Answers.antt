@@ -1,4 +1,4 @@
-use Rattle.std.proofs.Common.{arith, rules}
+use Rattle.std.proofs.Common.{◌+◌, ◌*◌, ◌/◌, ◌%◌, ◌^◌, ◌∙◌, ap, arith, rules}
 use Rattle.coordinates.proofs.Numbers.{few}
 use Rattle.tensor_rows.proofs.ColumnTurns.{gathered_none, gathered_fits, gathered_more, gathered_all}
 use Rattle.tensor_rows.proofs.columns.column.Goals as goal
@@ -6,18 +6,25 @@ use Rattle.tensor_rows.proofs.columns.column.Goals as goal
 pub loop-u-init : goal.loop-u-init
 loop-u-init g c = search (rules, gathered_none)
 
-pub column_with_row-column-requires : goal.column_with_row-column-requires
-column_with_row-column-requires g c =
+pub coordinate-requires : goal.coordinate-requires
+coordinate-requires g c =
     let k = g.L.Level.log in
-    let h = c.requires.narrow in record {
-      narrow = h;
-      place = few k _ h (omega (arith, c.requires.rows));
-      read = few k _ h c.requires.read;
-      fits = gathered_fits g.L.Level.means c.args.rows.now c.args.v c.loop-u.u _ c.loop-u.invariant;
-    }
+    let place = few k c.loop-u.u c.requires.narrow (omega (arith, c.requires.rows)) in
+    let read = few k c.args.v c.requires.narrow c.requires.read in
+    omega (arith, place, read)
+
+pub with_coordinate-column-requires : goal.with_coordinate-column-requires
+with_coordinate-column-requires g c =
+    let k = g.L.Level.log in
+    let place = few k c.loop-u.u c.requires.narrow (omega (arith, c.requires.rows)) in
+    let fits = gathered_fits g.L.Level.means c.args.rows.now c.args.v c.loop-u.u _ c.loop-u.invariant in
+    (place, (fits, omega (arith, c.coordinate.ensures)))
 
 pub loop-u-preserved : goal.loop-u-preserved
-loop-u-preserved g c = search (rules, gathered_more)
+loop-u-preserved g c =
+    let made = c.with_coordinate-column.ensures
+    ∙ ap (λ n. c.loop-u.column + n * 2 ^ c.loop-u.u) (c.coordinate.ensures ∙ ap (λ n. n / 2 ^ c.args.v % 2) c.coordinates.ensures) in
+    search (rules, gathered_more)
 
 pub returns : goal.returns
 returns g c = search (rules, gathered_all)

@@ -1,18 +1,36 @@
-use Rattle.std.proofs.Common.{arith}
-use Rattle.tensor_rows.proofs.Transposed.{digits_none, digits_fit, digits_more, digits_all}
+use Rattle.std.proofs.Common.{◌+◌, ◌-◌, ◌*◌, length, ap, arith}
+use Rattle.std.proofs.lemmas.Iterator.Adapters.{YieldsList-from_rev_slice}
+use Rattle.std.proofs.lemmas.Iterator.Consumers.{YieldsList-turn, YieldsList-end}
+use Rattle.std.proofs.lemmas.List.{length-reverse, length_push}
+use Rattle.tensor_rows.proofs.Transposed.{digits_none, digits_fit, digits_turn, digits_all}
 use Rattle.tensor_rows.proofs.columns.gather.Goals as goal
 
-pub loop-u-init : goal.loop-u-init
-loop-u-init c = digits_none c.args.source.now c.args.v c.args.d _ (omega arith)
+pub loop-row-init : goal.loop-row-init
+loop-row-init c = digits_none c.args.source.now c.args.v (length c.args.source.now) _ (omega arith)
 
-pub with_source-column-requires : goal.with_source-column-requires
-with_source-column-requires c =
-    (digits_fit c.args.source.now c.args.v c.args.d c.loop-u.u _ (omega arith) (omega arith) c.loop-u.invariant, omega arith)
+pub overflow_mul-column : goal.overflow_mul-column
+overflow_mul-column c =
+    let ns = c.args.source.now in
+    let t = YieldsList-turn (YieldsList-from_rev_slice ns cc) c.loop-row.yielded _ c.loop-row.yielded_by _ _ c.in-Some.row c.in-Some.is c.next.ensures.steps in
+    let short = digits_fit ns c.args.v (length ns) (length ns - length c.loop-row.yielded) _ (omega (arith, t.0, length-reverse ns)) (omega arith) c.loop-row.invariant in
+    omega (arith, short)
 
-pub loop-u-preserved : goal.loop-u-preserved
-loop-u-preserved c =
-    digits_more c.args.source.now c.args.v c.args.d c.loop-u.u _ _ (omega arith) c.loop-u.auto.u c.with_source-column.ensures
-    c.loop-u.invariant
+pub overflow_add-column : goal.overflow_add-column
+overflow_add-column c =
+    let ns = c.args.source.now in
+    let t = YieldsList-turn (YieldsList-from_rev_slice ns cc) c.loop-row.yielded _ c.loop-row.yielded_by _ _ c.in-Some.row c.in-Some.is c.next.ensures.steps in
+    let short = digits_fit ns c.args.v (length ns) (length ns - length c.loop-row.yielded) _ (omega (arith, t.0, length-reverse ns)) (omega arith) c.loop-row.invariant in
+    omega (arith, short, c.coordinate.ensures)
+
+pub loop-row-preserved : goal.loop-row-preserved
+loop-row-preserved c =
+    let ns = c.args.source.now in
+    let t = YieldsList-turn (YieldsList-from_rev_slice ns cc) c.loop-row.yielded _ c.loop-row.yielded_by _ _ c.in-Some.row c.in-Some.is c.next.ensures.steps in
+    digits_turn ns c.args.v (length c.loop-row.yielded) _ c.loop-row.column _ _ (length_push c.loop-row.yielded c.in-Some.row) t.0 t.1 (ap (λ n. 2 * c.loop-row.column + n) c.coordinate.ensures)
+    c.loop-row.invariant
 
 pub returns : goal.returns
-returns c = digits_all c.args.source.now c.args.v c.args.d c.loop-u.u _ (omega arith) c.loop-u.invariant
+returns c =
+    let ns = c.args.source.now in
+    let t = YieldsList-end (YieldsList-from_rev_slice ns cc) c.loop-row.yielded _ c.loop-row.yielded_by _ _ c.in-None.is c.next.ensures.steps in
+    digits_all ns c.args.v (length ns) _ _ (omega (arith, t.1, length-reverse ns)) c.loop-row.invariant

@@ -1,27 +1,32 @@
-use Rattle.std.proofs.Common.{◌≡◌, ◌<◌, length, get_or, ap, arith, rules}
+use Rattle.std.proofs.Common.{◌+◌, ◌-◌, ◌*◌, ◌<◌, ◌≤◌, length, get_or, drop, refl, ap, ◌∙◌, length-drop, length-take, length-take-le, arith}
+use Rattle.std.proofs.lemmas.List.{get_or-take}
 use Rattle.tensor_rows.proofs.Places.{written_none}
 use Rattle.tensor_rows.proofs.Turns.{byte_fits, byte_more, bytes_all}
 use Rattle.tensor_rows.proofs.rows.add_exterior_product.Goals as goal
 
 pub loop-j-init : goal.loop-j-init
-loop-j-init g c = λ a e. written_none g.L.Level.means _ c.args.rows.now
+loop-j-init g c = written_none g.L.Level.means _ c.args.rows.now
 
-pub add_from-requires : goal.add_from-requires
-add_from-requires g c =
-    let fits = byte_fits g.L.Level.log c.loop-j.j c.requires.narrow (omega arith) in
+pub slice_bounds-add_byte-end : goal.slice_bounds-add_byte-end
+slice_bounds-add_byte-end g c =
+    let fits = byte_fits g.L.Level.log c.loop-j.j c.requires.narrow (omega (arith, length-take c.num_bytes.result c.to_bytes-bytes.result)) in
     omega (arith, fits.0)
 
 pub loop-j-preserved : goal.loop-j-preserved
-loop-j-preserved g c = λ a e.
+loop-j-preserved g c =
     let j = c.loop-j.j in
-    let low : j < 16 = (byte_fits g.L.Level.log j c.requires.narrow (omega arith)).1 in
-    let same : length c.add_from.new.rows ≡ length c.args.rows.now = search rules in
-    byte_more g.L.Level.means a (g.L.Level.means c.args.b) c.args.rows.now c.loop-j.rows c.add_from.new.rows j c.byte_width.result _
-    c.requires.narrow c.requires.rows same c.byte_width.ensures low (ap (λ bs. get_or bs j 0) e) (c.loop-j.invariant a e)
-    c.add_from.ensures.added c.add_from.ensures.before c.add_from.ensures.after
+    let start = 8 * j in
+    let count = start + c.min-count.result - start in
+    let below : j < c.num_bytes.result = omega (arith, length-take c.num_bytes.result c.to_bytes-bytes.result) in
+    let fits = byte_fits g.L.Level.log j c.requires.narrow (omega arith) in
+    let room : count ≤ length (drop start c.loop-j.rows) = omega (arith, fits.0, length-drop start c.loop-j.rows) in
+    byte_more g.L.Level.means (g.L.Level.means c.args.a) (g.L.Level.means c.args.b) c.args.rows.now c.loop-j.rows c.add_byte.new.rows j start count _
+    c.requires.narrow c.requires.rows c.loop-j.auto.rows refl (omega arith) (omega (arith, c.add_byte.auto.rows, length-take-le count (drop start c.loop-j.rows) room)) (omega (arith, below))
+    (get_or-take c.num_bytes.result c.to_bytes-bytes.result j 0 below ∙ ap (λ bs. get_or bs j 0) c.to_bytes-bytes.ensures) c.loop-j.invariant c.add_byte.ensures
 
 pub returns : goal.returns
 returns g c =
     let m = g.L.Level.means in
-    bytes_all m (m c.args.a) (m c.args.b) c.args.rows.now c.loop-j.rows c.loop-j.j c.byte_count-j-end.result
-    c.requires.rows c.byte_count-j-end.ensures c.loop-j-test.false (c.loop-j.invariant (m c.args.a) c.to_bytes-bytes.ensures)
+    let last = (byte_fits g.L.Level.log (c.num_bytes.result - 1) c.requires.narrow (omega arith)).1 in
+    bytes_all m (m c.args.a) (m c.args.b) c.args.rows.now c.loop-j.rows c.loop-j.j c.num_bytes.result
+    c.requires.narrow c.requires.rows c.num_bytes.ensures (omega (arith, last, length-take c.num_bytes.result c.to_bytes-bytes.result)) c.loop-j.invariant

@@ -1,6 +1,4 @@
-use Rattle.std.proofs.Common.{◌≡◌, ◌*◌}
-use Rattle.level.specs.Bytes.{sixteen}
-use Rattle.level.specs.Element.{Element}
+use Rattle.std.proofs.Common.{◌*◌}
 use Rattle.multilinear.specs.Lent.{lent}
 use Rattle.tensor_algebra.specs.Tensor.{exterior, add}
 use Rattle.tensor_rows.proofs.Places.{Written}
@@ -9,5 +7,4 @@ use Rattle.tensor_rows.proofs.rows.add_exterior_product.Given as goal
 abbrev pub invariant-loop-j : goal.invariant-loop-j
 invariant-loop-j g l =
     let means = g.L.Level.means in
-    (a : Element g.L.Level.log) → l.bytes ≡ sixteen a
-    → Written means (add (lent means l.initial.rows) (exterior a (means l.b))) l.initial.rows l.rows (8 * l.j)
+    Written means (add (lent means l.initial.rows) (exterior (means l.fn.a) (means l.b))) l.initial.rows l.rows (8 * l.j)

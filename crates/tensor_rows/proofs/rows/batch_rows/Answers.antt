@@ -1,13 +1,26 @@
-use Rattle.std.proofs.Common.{arith, rules}
-use Rattle.tensor_rows.proofs.Turns.{batched_none, batched_more, batched_all}
+use Rattle.std.proofs.Common.{length, sym, ◌∙◌, ap, arith, rules}
+use Rattle.std.proofs.lemmas.List.{length_push}
+use Rattle.std.proofs.lemmas.Slice.Zip.{zip_turn, zip_end}
+use Rattle.level.specs.Element.{plus}
+use Rattle.tensor_rows.proofs.Turns.{batched, batched_none, batched_more, batched_all}
 use Rattle.tensor_rows.proofs.rows.batch_rows.Goals as goal
 
-pub loop-u-init : goal.loop-u-init
-loop-u-init g c = search (rules, batched_none)
+pub loop-row-init : goal.loop-row-init
+loop-row-init g c = search (rules, batched_none)
 
-pub loop-u-preserved : goal.loop-u-preserved
-loop-u-preserved g c =
-    batched_more _ _ _ _ c.loop-u.u _ _ _ _ (omega (arith, c.requires)) c.loop-u-test.true c.index-weights-u.is c.index-rows-u.is c.with_term-sum.ensures c.loop-u.invariant
+pub loop-row-preserved : goal.loop-row-preserved
+loop-row-preserved g c =
+    let m = g.L.Level in
+    let ws = c.args.weights.now in
+    let xs = c.args.rows.now in
+    let t = zip_turn xs ws c.loop-row.yielded c.into_iter-row-iterator.result c.loop-row.row-iterator c.next.new.self _ (cc) (cc) c.loop-row.yielded_by _ c.in-Some.is c.next.ensures.steps in
+    batched_more m.means m.arithmetic ws xs (length c.loop-row.yielded) _ _ _ _ t.1 t.0 (t.3 _) (t.2 _) (c.add-sum.ensures ∙ ap (plus _) c.mul.ensures) c.loop-row.invariant
+    ∙ ap (batched m.means m.arithmetic ws xs) (sym (length_push c.loop-row.yielded _))
 
 pub returns : goal.returns
-returns g c = search (rules, batched_all)
+returns g c =
+    let m = g.L.Level in
+    let ws = c.args.weights.now in
+    let xs = c.args.rows.now in
+    let t = zip_end xs ws c.loop-row.yielded c.into_iter-row-iterator.result c.loop-row.row-iterator c.next.new.self _ (cc) (cc) c.loop-row.yielded_by c.in-None.is c.next.ensures.steps in
+    batched_all m.means m.arithmetic ws xs (length c.loop-row.yielded) _ c.requires.rows (omega arith) (omega arith) c.loop-row.invariant

@@ -1,8 +1,8 @@
-use Rattle.std.proofs.Common.{◌≡◌}
+use Rattle.std.proofs.Common.{◌≡◌, length}
 use Rattle.tensor_rows.proofs.Turns.{batched}
 use Rattle.tensor_rows.proofs.rows.batch_rows.Given as goal
 
-abbrev pub invariant-loop-u : goal.invariant-loop-u
-invariant-loop-u g l =
+abbrev pub invariant-loop-row : goal.invariant-loop-row
+invariant-loop-row g l =
     let m = g.L.Level in
-    m.means l.sum ≡ batched m.means m.arithmetic l.weights l.rows l.u
+    m.means l.sum ≡ batched m.means m.arithmetic l.weights l.rows (length l.yielded)

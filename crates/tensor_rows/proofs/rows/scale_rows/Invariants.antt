@@ -3,7 +3,7 @@ use Rattle.tensor_algebra.specs.Tensor.{scale_rows}
 use Rattle.tensor_rows.proofs.Places.{Written}
 use Rattle.tensor_rows.proofs.rows.scale_rows.Given as goal
 
-abbrev pub invariant-loop-u : goal.invariant-loop-u
-invariant-loop-u g l =
+abbrev pub invariant-loop-row : goal.invariant-loop-row
+invariant-loop-row g l =
     let m = g.L.Level in
-    Written m.means (scale_rows m.arithmetic (m.means l.b) (lent m.means l.initial.rows)) l.initial.rows l.rows l.u
+    Written m.means (scale_rows m.arithmetic (m.means l.b) (lent m.means l.initial.rows)) l.initial.rows l.rows l.row-index

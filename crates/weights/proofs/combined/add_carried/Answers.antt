@@ -1,21 +1,51 @@
-use Rattle.std.proofs.Common.{◌+◌, ◌/◌, ◌%◌, ◌^◌, ◌≤◌, min, length, ap, arith}
-use Rattle.std.proofs.lemmas.Nat.{one_shl}
-use Rattle.weights.proofs.Combining.{columns_none, columns_more, columns_all}
+use Rattle.std.proofs.Common.{◌≡◌, ◌+◌, ◌-◌, ◌*◌, ◌/◌, ◌%◌, ◌^◌, ◌<◌, ◌≤◌, min, length, take, drop, ap, ◌∙◌, sym, arith, length-drop, mul-le-mul_right, pow_pos}
+use prog.Memory.{size}
+use denote.Param.{layout}
+use Rattle.std.proofs.lemmas.List.{length-take}
+use Rattle.weights.proofs.Combining.{column_begins, column_carried, columns_none, columns_more, columns_all}
 use Rattle.weights.proofs.combined.add_carried.Goals as goal
 
-pub loop-c-init : goal.loop-c-init
-loop-c-init g c = columns_none g.L.Level.means g.L.Level.arithmetic c.args.rows (g.L.Level.means c.args.alpha) c.args.table.now
+pub offset_bounds-table-start : goal.offset_bounds-table-start
+offset_bounds-table-start g c =
+    let n = length c.args.table.now in
+    let length-is = c.length-length.ensures in
+    let begins = column_begins c.args.columns.row_variables c.loop-column.column n (omega (arith, ap (λ m. n / m + min 1 (n % m)) length-is)) in
+    let within : c.loop-column.column * c.length-length.result ≤ n = omega (arith, begins, ap (λ m. c.loop-column.column * m) length-is) in
+    omega (arith, mul-le-mul_right (size (layout g.row.L)) within, c.well_formed.0.1)
 
-pub loop-c-preserved : goal.loop-c-preserved
-loop-c-preserved g c =
-    let column = c.column_at-start.ensures in
-    let carry = c.carry_column.ensures in
-    columns_more g.L.Level.means g.L.Level.arithmetic c.args.rows (g.L.Level.means c.args.alpha) c.args.table.now c.loop-c.table c.carry_column.new.table c.loop-c.c _ _
-    column.start column.end carry.carried carry.before carry.after c.loop-c.invariant
+pub carry_column-requires : goal.carry_column-requires
+carry_column-requires g c =
+    let n = length c.args.table.now in
+    let length-is = c.length-length.ensures in
+    let begins = column_begins c.args.columns.row_variables c.loop-column.column n (omega (arith, ap (λ m. n / m + min 1 (n % m)) length-is)) in
+    let within : c.loop-column.column * c.length-length.result < length c.loop-column.table = omega (arith, begins, ap (λ m. c.loop-column.column * m) length-is) in
+    simp (length-take, length-drop) (omega (arith, pow_pos c.args.columns.row_variables))
+
+pub loop-column-init : goal.loop-column-init
+loop-column-init g c = columns_none g.L.Level.means g.L.Level.arithmetic c.args.columns.row_variables (g.L.Level.means c.args.alpha) c.args.table.now
+
+pub loop-column-preserved : goal.loop-column-preserved
+loop-column-preserved g c =
+    let m = g.L.Level in
+    let n = length c.args.table.now in
+    let length-is = c.length-length.ensures in
+    let begins = column_begins c.args.columns.row_variables c.loop-column.column n (omega (arith, ap (λ w. n / w + min 1 (n % w)) length-is)) in
+    let start = c.loop-column.column * c.length-length.result in
+    let end = start + c.min.result in
+    let start-is : start ≡ c.loop-column.column * 2 ^ c.args.columns.row_variables = ap (λ w. c.loop-column.column * w) length-is in
+    let end-is : end ≡ min (c.loop-column.column * 2 ^ c.args.columns.row_variables + 2 ^ c.args.columns.row_variables) n = omega (arith, start-is, begins) in
+    let filled : start < end = omega (arith, begins, start-is, pow_pos c.args.columns.row_variables) in
+    let room : end ≤ length c.loop-column.table = omega (arith, begins, start-is) in
+    let long : length c.carry_column.new.column ≡ end - start =
+    c.carry_column.auto.column ∙ length-take (end - start) (drop start c.loop-column.table) ∙ omega (arith, length-drop start c.loop-column.table) in
+    let inside : length (take (end - start) (drop start c.loop-column.table)) ≡ end - start = sym c.carry_column.auto.column ∙ long in
+    let carry = column_carried m.means m.arithmetic c.args.columns.row_variables (m.means c.args.alpha) c.loop-column.table c.carry_column.new.column start end filled room long
+    c.carry_column.ensures.first (λ i h l. c.carry_column.ensures.carried i h (omega (arith, inside))) in
+    columns_more m.means m.arithmetic c.args.columns.row_variables (m.means c.args.alpha) c.args.table.now c.loop-column.table _ c.loop-column.column start end
+    start-is end-is carry c.loop-column.invariant
 
 pub returns : goal.returns
 returns g c =
     let n = length c.args.table.now in
-    let column = one_shl c.args.rows 64 c.requires in
-    let all : n / 2 ^ c.args.rows + min 1 (n % 2 ^ c.args.rows) ≤ c.loop-c.c = omega (arith, ap (λ m. n / m + min 1 (n % m)) column) in
-    columns_all g.L.Level.means g.L.Level.arithmetic c.args.rows (g.L.Level.means c.args.alpha) c.args.table.now c.loop-c.table c.loop-c.c all c.loop-c.invariant
+    let all : n / 2 ^ c.args.columns.row_variables + min 1 (n % 2 ^ c.args.columns.row_variables) ≤ c.loop-column.column = omega (arith, ap (λ m. n / m + min 1 (n % m)) c.length-length.ensures) in
+    columns_all g.L.Level.means g.L.Level.arithmetic c.args.columns.row_variables (g.L.Level.means c.args.alpha) c.args.table.now c.loop-column.table c.loop-column.column all c.loop-column.invariant

@@ -1,16 +1,40 @@
-use Rattle.std.proofs.Common.{refl, arith}
+use Rattle.std.proofs.Common.{◌/◌, ◌^◌, ◌<◌, ◌≤◌, length, refl, subst, arith, pow_pos}
+use Rattle.folding.proofs.Folds.{column_within}
 use Rattle.weights.proofs.Combining.{ended_more, ended_all}
 use Rattle.weights.proofs.combined.add_ending.Goals as goal
 
-pub loop-c-init : goal.loop-c-init
-loop-c-init g c = record { done = λ j h. absurd (omega arith); rest = λ j h. refl }
+pub last-i-requires : goal.last-i-requires
+last-i-requires g c =
+    let len = length c.args.table.now in
+    let w = 2 ^ c.args.columns.row_variables in
+    let within = column_within c.loop-column.column w len (pow_pos c.args.columns.row_variables)
+    (subst (λ n. c.loop-column.column < len / n) c.length.ensures c.loop-column-test.true) in
+    omega (arith, within)
 
-pub loop-c-preserved : goal.loop-c-preserved
-loop-c-preserved g c =
-    ended_more g.L.Level.means g.L.Level.arithmetic c.args.rows (g.L.Level.means c.args.factor) c.args.table.now c.loop-c.table c.loop-c.c c.last_entry-i.result _ _ _
-    (omega arith) c.last_entry-i.ensures.place c.index-table-i.is c.mul.ensures c.add.ensures c.loop-c.invariant
+pub bounds-table-i : goal.bounds-table-i
+bounds-table-i g c =
+    let len = length c.args.table.now in
+    let w = 2 ^ c.args.columns.row_variables in
+    let within = column_within c.loop-column.column w len (pow_pos c.args.columns.row_variables)
+    (subst (λ n. c.loop-column.column < len / n) c.length.ensures c.loop-column-test.true) in
+    omega (arith, within)
+
+pub loop-column-init : goal.loop-column-init
+loop-column-init g c = record { done = λ j h. absurd (omega arith); rest = λ j h. refl }
+
+pub loop-column-preserved : goal.loop-column-preserved
+loop-column-preserved g c =
+    let len = length c.args.table.now in
+    let w = 2 ^ c.args.columns.row_variables in
+    let within = column_within c.loop-column.column w len (pow_pos c.args.columns.row_variables)
+    (subst (λ n. c.loop-column.column < len / n) c.length.ensures c.loop-column-test.true) in
+    ended_more g.L.Level.means g.L.Level.arithmetic c.args.columns.row_variables (g.L.Level.means c.args.factor) c.args.table.now c.loop-column.table c.loop-column.column
+    c.last-i.result _ _ _ (omega (arith, within)) c.last-i.ensures c.index-table-i.is c.mul.ensures c.add.ensures c.loop-column.invariant
 
 pub returns : goal.returns
 returns g c =
-    ended_all g.L.Level.means g.L.Level.arithmetic c.args.rows (g.L.Level.means c.args.factor) c.args.table.now c.loop-c.table c.loop-c.c
-    c.loop-c-test.false (omega arith) c.loop-c.invariant
+    let len = length c.args.table.now in
+    let all = subst (λ n. len / n ≤ c.loop-column.column) c.length.ensures c.loop-column-test.false in
+    let most = subst (λ n. c.loop-column.column ≤ len / n) c.length.ensures c.loop-column.auto.column-end in
+    ended_all g.L.Level.means g.L.Level.arithmetic c.args.columns.row_variables (g.L.Level.means c.args.factor) c.args.table.now c.loop-column.table c.loop-column.column
+    all most c.loop-column.invariant

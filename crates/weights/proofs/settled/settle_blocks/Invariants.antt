@@ -5,8 +5,8 @@ use Rattle.basis.specs.Tables.{Tabulated}
 use Rattle.weights.proofs.Settling.{Settled}
 use Rattle.weights.proofs.settled.settle_blocks.Given as goal
 
-abbrev pub invariant-loop-b : goal.invariant-loop-b
-invariant-loop-b g l =
+abbrev pub invariant-loop-block : goal.invariant-loop-block
+invariant-loop-block g l =
     let m = g.L.Level in
     (f : ℕ → Element m.log) → Tabulated f (lent m.means l.sums)
-    → Settled m.means g.met.L.Level.ring f (lent m.means l.equality.outer.now) (lent m.means l.equality.inner.now) (length l.equality.inner.now) l.b (lent m.means l.table)
+    → Settled m.means g.met.L.Level.ring f (lent m.means l.equality.outer.now) (lent m.means l.equality.inner.now) (length l.equality.inner.now) l.block (lent m.means l.table)

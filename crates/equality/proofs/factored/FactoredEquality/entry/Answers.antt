@@ -1,10 +1,16 @@
+use Rattle.std.proofs.Common.{◌/◌, ◌%◌, ap, ◌∙◌}
 use Rattle.equality.proofs.Factoring.{within, indexed_entry}
 use Rattle.equality.proofs.factored.FactoredEquality.entry.Goals as goal
 
 pub product-requires : goal.product-requires
-product-requires g c = within _ _ c.args.index _ _ c.requires c.position-block.ensures.block c.position-block.ensures.place
+product-requires g c =
+    let i = c.args.index in
+    within _ _ i _ _ c.requires (c.split_index.ensures.block ∙ ap (λ n. i / n) c.block_len.ensures)
+    (c.split_index.ensures.place ∙ ap (λ n. i % n) c.block_len.ensures)
 
 pub returns : goal.returns
 returns g c =
-    indexed_entry g.L.Level.means g.met.L.Level.ring _ _ _ c.args.index _ _ c.requires c.position-block.ensures.block
-    c.position-block.ensures.place c.product.ensures
+    let i = c.args.index in
+    indexed_entry g.L.Level.means g.met.L.Level.ring _ _ _ i _ _ c.requires
+    (c.split_index.ensures.block ∙ ap (λ n. i / n) c.block_len.ensures)
+    (c.split_index.ensures.place ∙ ap (λ n. i % n) c.block_len.ensures) c.product.ensures

@@ -9,4 +9,4 @@ use Rattle.redundant_level.proofs.masked_byte.MaskedByteLevel.from_bytes.Goals a
 pub returns : goal.returns
 returns c =
     let s = c.new.ensures in
-    ap₂ (λ m n. cut 3 (bit_xor m n)) s.share s.mask ∙ ap (cut 3) (unmasked _ _ ∙ c.first_byte.ensures) ∙ sym (from_first_byte 3 c.args.bytes (omega arith))
+    ap₂ (λ m n. cut 3 (bit_xor m n)) s.share s.mask ∙ ap (cut 3) (unmasked _ _) ∙ sym (from_first_byte 3 c.args.bytes (omega arith))

@@ -1,8 +1,0 @@
-use Rattle.folding.proofs.Slots.{tensor_made}
-use Rattle.folding.proofs.tensor.tensor_over.Goals as goal
-
-pub returns : goal.returns
-returns g c = record {
-  rows = λ s p f. tensor_made g.L.Level.means g.met.L.Level.ring _ _ s p f _ _ _ _ c.clear.ensures c.new.ensures c.add_blocks.ensures;
-  scratch = c.clear-2.ensures;
-}

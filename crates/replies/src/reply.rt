@@ -1,0 +1,47 @@
+ghost use Rattle.std.specs.Prelude.{IfOk, string_bytes};
+ghost use Rattle.explain_input.specs.Inputs.{parts_of};
+ghost use Rattle.report_lines.specs.Replies.{ReplyAt, ReplyTo, Reply};
+
+use crate::reporter::Reporter;
+use byte_levels::polynomial_byte::PolynomialByte;
+use byte_levels::tower::TowerByte;
+use doubling::doubling::Doubling;
+use explain_input::input::{Input, read_input};
+use level::level::Level;
+use level_name::LevelName;
+use problem::errors::{input_error, problem_error};
+use problem::reading::read_problem;
+use std::alloc::{AllocError, Global};
+
+// The reply to an input at a level.
+fn reply_at<R: Reporter, L: Level>(heap: Global, input: &Input) -> Result<String, AllocError>
+    ensures { IfOk result (λ s. ReplyAt L.arithmetic (parts_of input.now) (string_bytes s)) }
+{
+    match read_problem::<L>(heap, input) {
+        Ok(problem) => R::report(heap, &problem),
+        Err(fault) => problem_error(heap, fault),
+    }
+}
+
+// The reply to an input at the level that it names.
+fn reply_to<R: Reporter>(heap: Global, input: &Input) -> Result<String, AllocError>
+    ensures { IfOk result (λ s. ReplyTo (parts_of input.now) (string_bytes s)) }
+{
+    match input.level {
+        LevelName::TowerByte => reply_at::<R, TowerByte>(heap, input),
+        LevelName::Tower16 => reply_at::<R, Doubling<TowerByte>>(heap, input),
+        LevelName::Tower32 => reply_at::<R, Doubling<Doubling<TowerByte>>>(heap, input),
+        LevelName::Tower64 => reply_at::<R, Doubling<Doubling<Doubling<TowerByte>>>>(heap, input),
+        LevelName::PolynomialByte => reply_at::<R, PolynomialByte>(heap, input),
+    }
+}
+
+// The reply to an input: its report, or one line that begins `error: ` where it cannot be read.
+pub fn reply<R: Reporter>(heap: Global, text: &[u8]) -> Result<String, AllocError>
+    ensures { IfOk result (λ s. Reply text.now (string_bytes s)) }
+{
+    match read_input(heap, text) {
+        Ok(input) => reply_to::<R>(heap, &input),
+        Err(fault) => input_error(heap, fault),
+    }
+}
