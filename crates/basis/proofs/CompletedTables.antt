@@ -15,7 +15,7 @@ use Rattle.tensor_algebra.proofs.Basis.{at_power}
 use Rattle.tensor_algebra.proofs.LowestBit.{lowest_below}
 use Rattle.tensor_algebra.proofs.SubsetSums.{byte_zero, byte_extends}
 use Rattle.multilinear.proofs.Lent.{lent_written, lent_kept}
-use Rattle.tensor_rows.proofs.Places.{before_part, in_part, past_part, of_part}
+use Rattle.multilinear.proofs.Places.{before_part, in_part, past_part, of_part}
 use Rattle.basis.specs.Tables.{num_bytes, lone, held, Completed, Tabulated}
 
 -- the lowest set bit of a number, alone, is no more than the number
@@ -136,9 +136,6 @@ module _ {k : ℕ} where
     pub entries : (j s : ℕ) → j < n → s < 256 → new (256 * j + s) ≡ byte_sum (held old) j s
     pub rest : (i : ℕ) → 256 * n ≤ i → new i ≡ old i
 
-  pub completed_none : (old : ℕ → Element k) → CompletedBelow old old 0
-  completed_none old = record { entries = λ j s h _. absurd (omega arith); rest = λ i _. refl }
-
   pub completed_more : (old new next : ℕ → Element k) (n : ℕ) → CompletedBelow old new n → Completed new next n → CompletedBelow old next (n + 1)
   completed_more old new next n b c = record {
     entries = λ j s h l. ⊎_elim
@@ -149,9 +146,6 @@ module _ {k : ℕ} where
     where
       weights : (u : ℕ) → u < 8 → held new (8 * n + u) ≡ held old (8 * n + u)
       weights u h = b.rest (lone (8 * n + u)) (omega (arith, lone_at n u h))
-
-  pub completed_all : (old new : ℕ → Element k) (n : ℕ) → n ≡ num_bytes k → CompletedBelow old new n → Tabulated (held old) new
-  completed_all old new n e b = record { entry = λ j s h l. b.entries j s (rw e h) l }
 
   -- The weights f of the coordinates below n are at their places.
   abbrev pub Placed : (ℕ → Element k) → (ℕ → Element k) → ℕ → Type 0

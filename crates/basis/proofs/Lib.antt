@@ -1,5 +1,4 @@
 pub mod CellsOfBytes
-pub mod LentSlices
 pub mod CompletedTables
 pub mod LookedUpSums
 pub mod Searching

@@ -6,14 +6,15 @@ ghost use Rattle.tensor_algebra.specs.Subsets.{basis};
 
 use level::level::Level;
 
-// The first 128 coordinates of an element: coordinate u is bit u mod 8, least first, of byte u div 8.
+// The first 128 coordinates of an element: coordinate u is bit u mod 8, least first, of byte u div 8. That a coordinate is below 128 stands
+// at each method: a type of such numbers would only move the same test to where one is made.
 #[derive(Clone, Copy, Debug, PartialEq, Eq)]
 pub struct Coefficients {
     bytes: [u8; 16],
     ghost octets: { Octets bytes },
 }
 
-// Bit `at` of a byte.
+// Bit `at` of a byte. `coordinates::coordinate` reads a bit of a number of 128, and `plain` has a cell as a number.
 fn bit(byte: u8, at: usize) -> bool
     requires { at < 8 }
     ensures { result ≡ (byte / 2 ^ at % 2 == 1) }
@@ -21,12 +22,23 @@ fn bit(byte: u8, at: usize) -> bool
     (byte >> at) % 2 == 1
 }
 
-// The byte with bit `at` set.
+// The byte with bit `at` set, whatever bits it has: `coordinates::with_coordinate` asks that none from there on is set.
 fn with_bit(byte: u8, at: usize) -> u8
     requires { at < 8 }
     ensures { result ≡ bit_or byte (2 ^ at) }
 {
     byte | (1 << at)
+}
+
+// The coordinates of an element.
+impl<L: Level> From<L> for Coefficients {
+    ghost from_gives = { λ value coefficients. coefficients.bytes ≡ sixteen (L.means value) };
+
+    fn from(value: L) -> Coefficients {
+        Coefficients {
+            bytes: value.to_bytes(),
+        }
+    }
 }
 
 impl Coefficients {
@@ -35,15 +47,6 @@ impl Coefficients {
         ensures { result.bytes ≡ replicate 16 0 }
     {
         Coefficients { bytes: [0; 16] }
-    }
-
-    // The coordinates of an element.
-    pub fn of<L: Level>(value: L) -> Coefficients
-        ensures { result.bytes ≡ sixteen (L.means value) }
-    {
-        Coefficients {
-            bytes: value.to_bytes(),
-        }
     }
 
     // Whether a coordinate is set.
@@ -81,7 +84,7 @@ impl Coefficients {
         self.bytes[j]
     }
 
-    // The element with these coordinates.
+    // The element with these coordinates. By a name, since no `From` can be written for every level.
     pub fn element<L: Level>(&self) -> L
         ensures { L.means result ≡ from_sixteen L.Level.log self.now.bytes }
     {
@@ -109,10 +112,8 @@ pub fn basis_element<L: Level>(coordinate: usize) -> L
 }
 
 // Coordinates are the cells of their bytes: those of zero, of an element, and of the element that bytes make.
-pub fn coordinates_stand() -> u8
+pub fn coordinates_stand()
     ensures none { (u : ℕ) → cell (replicate 16 0) u ≡ 0 }
     ensures shown { (k : ℕ) (x : Element k) (u : ℕ) → u < 128 → cell (sixteen x) u ≡ coordinate x u }
     ensures made { (k : ℕ) (bytes : List ℕ) → Octets bytes → from_sixteen k bytes ≡ gather k (cell bytes) }
-{
-    0
-}
+{}

@@ -1,6 +1,6 @@
 ghost use Rattle.std.specs.Prelude.{◌≡◌, ℕ, ◌+◌, ◌-◌, ◌*◌, ◌^◌, ◌<◌, ◌≤◌, length, bit_and};
 ghost use Rattle.std.specs.Int.Count.{count_trailing_zeros};
-ghost use Rattle.level.specs.Element.{Element, plus, width};
+ghost use Rattle.level.specs.Element.{Element, plus};
 ghost use Rattle.multilinear.specs.Lent.{lent};
 ghost use Rattle.tensor_algebra.specs.Tensor.{subset_sum};
 ghost use Rattle.tensor_algebra.specs.Subsets.{basis};
@@ -8,6 +8,7 @@ ghost use Rattle.basis.specs.Tables.{num_bytes, lone, held, Completed, Tabulated
 
 use crate::coefficients::basis_element;
 use coordinates::num_bytes;
+use coordinates::per_coordinate::PerCoordinate;
 use level::level::Level;
 
 // The subset without its lowest coordinate.
@@ -43,7 +44,7 @@ fn complete_position<L: Level>(table: &mut [L])
 {
     table[0] = L::zero();
 
-    // Numbers, since a sum is made of two that stand before it in the same table.
+    // Numbers, since a sum is made of two that stand before it in the same table, which a loop over its entries cannot read.
     for subset in 1..256 {
         table[subset] = extended(table, subset);
     }
@@ -77,15 +78,14 @@ fn weight_at<L: Level>(weights: &[L], coordinate: usize) -> L
 }
 
 // Tabulates the subset sums of one weight for each coordinate.
-pub fn tabulate<L: Level>(tables: &mut [L], weights: &[L])
+pub fn tabulate<L: Level>(tables: &mut [L], weights: PerCoordinate<L>)
     requires narrow { L.Level.log ≤ 7 }
     requires sized { length tables.old ≡ 256 * num_bytes L.Level.log }
-    requires weighed { length weights.now ≡ width L.Level.log }
-    ensures { Tabulated (lent L.means weights.now) (lent L.means tables.new) }
+    ensures { Tabulated (lent L.means weights.entry.elements.now) (lent L.means tables.new) }
 {
     // Numbers, since a byte has eight coordinates also where the weights are fewer.
     for coordinate in 0..8 * num_bytes::<L>() {
-        tables[lone(coordinate)] = weight_at(weights, coordinate);
+        tables[lone(coordinate)] = weight_at(weights.elements, coordinate);
     }
     complete(tables);
 }

@@ -7,17 +7,8 @@ ghost use Rattle.polynomial.specs.Polynomial.{polynomial};
 ghost use Rattle.bench_products.specs.Chain.{chained, low_chained};
 
 use byte_levels::polynomial_byte::PolynomialByte;
-use byte_levels::tower::TowerByte;
-use doubling::doubling::Doubling;
+use byte_levels::tower::{Tower16, Tower32, Tower64, Tower128, TowerByte};
 use level::level::Level;
-
-type Pair = Doubling<TowerByte>;
-
-type Quad = Doubling<Doubling<TowerByte>>;
-
-type Oct = Doubling<Doubling<Doubling<TowerByte>>>;
-
-type Full = Doubling<Doubling<Doubling<Doubling<TowerByte>>>>;
 
 // The product of `x` and `y`, times `y` again until it is there `n` times.
 pub fn chain<L: Level>(x: L, y: L, n: u64) -> L
@@ -61,26 +52,26 @@ pub extern "C" fn chain_polynomial_byte(x: u64, y: u64, n: u64) -> u64
 pub extern "C" fn chain_tower_16(x: u64, y: u64, n: u64) -> u64
     ensures { result ≡ low_chained (tower 4) n x y }
 {
-    chain_low::<Pair>(x, y, n)
+    chain_low::<Tower16>(x, y, n)
 }
 
 #[unsafe(no_mangle)]
 pub extern "C" fn chain_tower_32(x: u64, y: u64, n: u64) -> u64
     ensures { result ≡ low_chained (tower 5) n x y }
 {
-    chain_low::<Quad>(x, y, n)
+    chain_low::<Tower32>(x, y, n)
 }
 
 #[unsafe(no_mangle)]
 pub extern "C" fn chain_tower_64(x: u64, y: u64, n: u64) -> u64
     ensures { result ≡ low_chained (tower 6) n x y }
 {
-    chain_low::<Oct>(x, y, n)
+    chain_low::<Tower64>(x, y, n)
 }
 
 #[unsafe(no_mangle)]
 pub extern "C" fn chain_tower_128(x: u64, y: u64, n: u64) -> u64
     ensures { result ≡ low_chained (tower 7) n x y }
 {
-    chain_low::<Full>(x, y, n)
+    chain_low::<Tower128>(x, y, n)
 }

@@ -1,91 +1,41 @@
-ghost use Rattle.std.specs.Prelude.{◌≡◌};
-ghost use Rattle.level.specs.Element.{cut};
+ghost use Rattle.std.specs.Prelude.{◌≡◌, ◌≤◌};
+ghost use Rattle.level.specs.Bytes.{from_sixteen};
 ghost use Rattle.doubling.specs.Doubled.{tower};
-ghost use Rattle.bench_reduction.specs.Pile.{pile, piled};
 ghost use Rattle.doubling.specs.Rings.{tower_laws};
 
-use byte_levels::tower::TowerByte;
-use doubling::doubling::Doubling;
+use byte_levels::tower::Tower128 as Pile;
 use level::level::Level;
 
-// Four doublings over the tower byte.
-type Full = Doubling<Doubling<Doubling<Doubling<TowerByte>>>>;
-
-// The bytes of such a pile, in the order in which they lie in memory: an exported function takes no generic type.
+// The bytes of an element of four doublings over the tower byte, in the order in which they lie in memory: an exported function takes no
+// generic type.
 #[derive(Clone, Copy)]
 #[repr(C)]
 pub struct Tower128 {
     bytes: [u8; 16],
 }
 
-// The pile with these bytes.
-fn stacked(x: Tower128) -> Full
-    ensures { pile result.low.low.low.low.value result.low.low.low.high.value result.low.low.high.low.value result.low.low.high.high.value result.low.high.low.low.value result.low.high.low.high.value result.low.high.high.low.value result.low.high.high.high.value result.high.low.low.low.value result.high.low.low.high.value result.high.low.high.low.value result.high.low.high.high.value result.high.high.low.low.value result.high.high.low.high.value result.high.high.high.low.value result.high.high.high.high.value ≡ piled x.bytes }
+// The element with these bytes. By name, as `from_bytes` and `to_bytes` of a level are, which it and `flat` hand on.
+fn stacked<L: Level>(x: Tower128) -> L
+    ensures { L.means result ≡ from_sixteen L.Level.log x.bytes }
 {
-    let bytes = x.bytes;
-    Doubling::new(
-        Doubling::new(
-            Doubling::new(
-                Doubling::new(TowerByte { value: bytes[0] }, TowerByte { value: bytes[1] }),
-                Doubling::new(TowerByte { value: bytes[2] }, TowerByte { value: bytes[3] }),
-            ),
-            Doubling::new(
-                Doubling::new(TowerByte { value: bytes[4] }, TowerByte { value: bytes[5] }),
-                Doubling::new(TowerByte { value: bytes[6] }, TowerByte { value: bytes[7] }),
-            ),
-        ),
-        Doubling::new(
-            Doubling::new(
-                Doubling::new(TowerByte { value: bytes[8] }, TowerByte { value: bytes[9] }),
-                Doubling::new(
-                    TowerByte { value: bytes[10] },
-                    TowerByte { value: bytes[11] },
-                ),
-            ),
-            Doubling::new(
-                Doubling::new(
-                    TowerByte { value: bytes[12] },
-                    TowerByte { value: bytes[13] },
-                ),
-                Doubling::new(
-                    TowerByte { value: bytes[14] },
-                    TowerByte { value: bytes[15] },
-                ),
-            ),
-        ),
-    )
+    L::from_bytes(x.bytes)
 }
 
-// The bytes of a pile.
-fn flat(x: Full) -> Tower128
-    ensures { piled result.bytes ≡ pile x.low.low.low.low.value x.low.low.low.high.value x.low.low.high.low.value x.low.low.high.high.value x.low.high.low.low.value x.low.high.low.high.value x.low.high.high.low.value x.low.high.high.high.value x.high.low.low.low.value x.high.low.low.high.value x.high.low.high.low.value x.high.low.high.high.value x.high.high.low.low.value x.high.high.low.high.value x.high.high.high.low.value x.high.high.high.high.value }
+// The bytes of an element.
+#[tactic(auto, using(level::proofs::Words::from_shown))]
+fn flat<L: Level>(x: L) -> Tower128
+    requires { L.Level.log ≤ 7 }
+    ensures { from_sixteen L.Level.log result.bytes ≡ L.means x }
 {
     Tower128 {
-        bytes: [
-            x.low.low.low.low.value,
-            x.low.low.low.high.value,
-            x.low.low.high.low.value,
-            x.low.low.high.high.value,
-            x.low.high.low.low.value,
-            x.low.high.low.high.value,
-            x.low.high.high.low.value,
-            x.low.high.high.high.value,
-            x.high.low.low.low.value,
-            x.high.low.low.high.value,
-            x.high.low.high.low.value,
-            x.high.low.high.high.value,
-            x.high.high.low.low.value,
-            x.high.high.low.high.value,
-            x.high.high.high.low.value,
-            x.high.high.high.high.value,
-        ],
+        bytes: x.to_bytes(),
     }
 }
 
 impl Level for Tower128 {
     ghost log = { 7 };
 
-    ghost means = { λ x. piled x.bytes };
+    ghost means = { λ x. from_sixteen 7 x.bytes };
 
     ghost arithmetic = { tower 7 };
 
@@ -96,38 +46,38 @@ impl Level for Tower128 {
     }
 
     fn zero() -> Self {
-        flat(Full::zero())
+        flat(Pile::zero())
     }
 
     fn one() -> Self {
-        flat(Full::one())
+        flat(Pile::one())
     }
 
     fn generator() -> Self {
-        flat(Full::generator())
+        flat(Pile::generator())
     }
 
     fn add(self, other: Self) -> Self {
-        flat(stacked(self).add(stacked(other)))
+        flat(stacked::<Pile>(self).add(stacked(other)))
     }
 
     fn mul(self, other: Self) -> Self {
-        flat(stacked(self).mul(stacked(other)))
+        flat(stacked::<Pile>(self).mul(stacked(other)))
     }
 
     fn mul_generator(self) -> Self {
-        flat(stacked(self).mul_generator())
+        flat(stacked::<Pile>(self).mul_generator())
     }
 
     fn equals(self, other: Self) -> bool {
-        stacked(self).equals(stacked(other))
+        stacked::<Pile>(self).equals(stacked(other))
     }
 
     fn to_bytes(self) -> [u8; 16] {
-        stacked(self).to_bytes()
+        stacked::<Pile>(self).to_bytes()
     }
 
     fn from_bytes(bytes: [u8; 16]) -> Self {
-        flat(Full::from_bytes(bytes))
+        Tower128 { bytes }
     }
 }

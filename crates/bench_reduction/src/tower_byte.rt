@@ -13,6 +13,7 @@ ghost use Rattle.byte_levels.specs.contracts.tower.TowerByteLevel.TheImpl.{ghost
 
 use byte_levels::tower::TowerByte;
 use columns::Columns;
+use coordinates::per_coordinate::PerCoordinate;
 use equality::factored::{FactoredEquality, factor};
 use folding::slot_table::SlotTable;
 use level::level::Level;
@@ -71,7 +72,6 @@ pub extern "C" fn carry_tower_byte<'a>(
     scratch: &mut [TowerByte],
 )
     requires short { kept < 64 }
-    requires filled { 0 < length inner.now }
     requires values { length values.now ≡ length outer.now * length inner.now }
     requires shifted { length shifted.old ≡ length inner.now }
     requires rows { length rows.old ≡ 8 }
@@ -120,7 +120,7 @@ pub extern "C" fn weights_tower_byte<'a>(
     weights_over(
         table,
         &FactoredEquality { outer, inner },
-        eq_batch,
+        PerCoordinate { elements: eq_batch },
         None,
         scratch,
     );
@@ -150,7 +150,7 @@ pub extern "C" fn challenged_weights_tower_byte<'a>(
     weights_over(
         table,
         &FactoredEquality { outer, inner },
-        eq_batch,
+        PerCoordinate { elements: eq_batch },
         stepping,
         scratch,
     );

@@ -43,7 +43,6 @@ mod tests {
     fn masked_byte(rt: HostRuntime) -> Result<(), Fail> {
         let heap = rt.alloc();
         let problem = opening(heap)?;
-        assert!(rt; problem.bits.len() <= 1 << 24);
         let fast = report(heap, &problem)?;
         assert!(rt; fast.as_str() == EXPECTED);
         let plain = plain_report(heap, &problem)?;

@@ -7,13 +7,8 @@ use Rattle.level.specs.Element.{cut}
 use Rattle.level.specs.Laws.{Arithmetic, Laws}
 use Rattle.level.proofs.Elements.{plus_is, cut_xor}
 use Rattle.level.proofs.Ring.{plus_times}
-use Rattle.level.proofs.Ands.{bit_cases}
 use Rattle.polynomial.proofs.Linear.{Linear, agree, at_zero, linear_sum, linear_after, linear_zero, linear_odd, linear_shr}
 use Rattle.byte_levels.specs.Rows.{selected}
-
--- a bit times a byte is a byte
-pub odd_times_fits : (a b : ℕ) → b < 256 → a % 2 * b < 256
-odd_times_fits a b h = bit_cases (λ p. p * b < 256) (omega arith) (omega arith) (a % 2) (omega arith)
 
 pub selected_linear : (rows : List ℕ) → Linear (λ a. selected a rows)
 unfolding selected

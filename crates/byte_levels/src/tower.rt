@@ -6,6 +6,7 @@ ghost use Rattle.doubling.specs.Rings.{tower_laws};
 
 use crate::bits::{equal, from_sixteen, sum, to_sixteen};
 use crate::combine::combine;
+use doubling::doubling::Doubling;
 use level::level::Level;
 
 // An element of three doublings over the bit, coordinate i in bit i.
@@ -14,6 +15,15 @@ use level::level::Level;
 pub struct TowerByte {
     pub value: u8,
 }
+
+// The levels of 16, 32, 64 and 128 coordinates over the tower byte.
+pub type Tower16 = Doubling<TowerByte>;
+
+pub type Tower32 = Doubling<Tower16>;
+
+pub type Tower64 = Doubling<Tower32>;
+
+pub type Tower128 = Doubling<Tower64>;
 
 // x0, x1 and x2 are the generators of the first, second and third doubling: 0x02, 0x04 and 0x10.
 

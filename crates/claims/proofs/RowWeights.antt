@@ -3,15 +3,17 @@ use Rattle.std.proofs.Common.{◌≡◌, ℕ, ◌-◌, ◌^◌, ◌<◌, ◌≤�
 use lib.Pow.{pow-lt, ones_lt}
 use Rattle.std.proofs.lemmas.Bool.Decides.{nat_tests}
 use Rattle.std.proofs.lemmas.Bool.{cases_lt}
-use Rattle.level.specs.Element.{Element, width, plus}
+use Rattle.level.specs.Element.{Element, width, plus, zeros}
 use Rattle.level.specs.Laws.{Arithmetic, Laws}
 use Rattle.level.proofs.Elements.{plus_zeros}
+use Rattle.level.proofs.Ring.{times_zeros}
 use Rattle.multilinear.specs.Cells.{standing, one_row_on}
 use Rattle.multilinear.specs.Equality.{Point, equality, multilinear}
 use Rattle.multilinear.specs.Lent.{lent}
 use Rattle.multilinear.specs.Sums.{where_set}
 use Rattle.multilinear.proofs.Lent.{lent_read}
-use Rattle.tensor_algebra.specs.Tensor.{Tensor, column}
+use Rattle.multilinear.proofs.Coordinates.{coordinate_mod, coordinate_zeros, gather_coordinates}
+use Rattle.tensor_algebra.specs.Tensor.{Tensor, column, nothing}
 use Rattle.equality.specs.Tables.{Tabulated}
 use Rattle.ring_switch.specs.Claims.{starts, ends, by_columns, inside, across, successor_claim}
 use Rattle.ring_switch.specs.ClaimLaws.{Binary, opened, opened_carry, opened_last}
@@ -87,13 +89,24 @@ module _ {X : Type 0} {k : ℕ} (means : X → Element k) (A : Arithmetic k) (es
       value_across A lo (lent means es) (tabulated_at means A lo es wide table) q rows t c l x y r h long settled rippled made
 
 -- what ripples out of an element, from what was read
-pub rippled_made : {X : Type 0} {k : ℕ} (means : X → Element k) (A : Arithmetic k) (es : List X) (x : X) (y r : Element k) (c l : Tensor k)
-    → length es ≡ width k → x ≡ get_or es (length es - 1) x → y ≡ plus (column c 0) (column l (length es - 1)) → r ≡ A.times (means x) y
-    → r ≡ A.times (lent means es (width k - 1)) (plus (column c 0) (column l (width k - 1)))
-rippled_made {k = k} means A es x y r c l wide read e made =
+pub rippled_made : {X : Type 0} {k : ℕ} (means : X → Element k) (A : Arithmetic k) (es : List X) (x : X) (y r : Element k) (c l c' l' : Tensor k)
+    → length es ≡ width k → x ≡ get_or es (length es - 1) x → c ≡ c' → l ≡ l' → y ≡ plus (column c' 0) (column l' (length es - 1))
+    → r ≡ A.times (means x) y → r ≡ A.times (lent means es (width k - 1)) (plus (column c 0) (column l (width k - 1)))
+rippled_made {k = k} means A es x y r c l c' l' wide read carried lasting e made =
     let some : length es - 1 < length es = omega (arith, pow_pos k) in
-    made ∙ ap₂ A.times (lent_read means es (length es - 1) x some read) e
+    made ∙ ap₂ A.times (lent_read means es (length es - 1) x some read) (e ∙ sym (ap₂ (λ s t. plus (column s 0) (column t (length es - 1))) carried lasting))
     ∙ ap (λ n. A.times (lent means es (n - 1)) (plus (column c 0) (column l (n - 1)))) wide
+
+-- zero tensors ripple nothing
+column_nothing : {k : ℕ} (v : ℕ) → column (nothing {k = k}) v ≡ zeros k
+unfolding column nothing
+column_nothing {k} v = gather_coordinates (zeros k) _ (λ u _. coordinate_mod (zeros k) v ∙ coordinate_zeros k v ∙ sym (coordinate_zeros k u))
+
+pub rippled_none : {k : ℕ} {A : Arithmetic k} → Laws A → (e r : Element k) (c l : Tensor k) (v : ℕ) → c ≡ nothing → l ≡ nothing → r ≡ zeros k
+    → r ≡ A.times e (plus (column c 0) (column l v))
+rippled_none {A = A} laws e r c l v carried lasting made =
+    made ∙ sym (ap₂ (λ x y. A.times e (plus x y)) (ap (λ t. column t 0) carried ∙ column_nothing 0) (ap (λ t. column t v) lasting ∙ column_nothing v)
+    ∙ ap (A.times e) (plus_zeros _) ∙ times_zeros laws e)
 
 -- tensors that are those of an opened table; where rows lie inside an element the claim looks at the first alone
 opened_claim : {k : ℕ} (A : Arithmetic k) (lo : Point k) (q : ℕ) (t c l t' c' l' : Tensor k) → t ≡ t' → (k < q → c ≡ c') → (k < q → l ≡ l')

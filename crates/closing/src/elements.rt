@@ -20,7 +20,7 @@ pub fn product<L: Level>(point: &[L]) -> L
     product
 }
 
-// A point in two: its last r coordinates, and those before them.
+// A point in two, as `split_at` answers it: its last r coordinates, and those before them.
 fn rows_apart<L: Level>(point: &[L], r: usize) -> (&[L], &[L])
     requires { r ≤ length point.now }
     ensures before { result.0.now ≡ take (length point.now - r) point.now }
@@ -32,7 +32,7 @@ fn rows_apart<L: Level>(point: &[L], r: usize) -> (&[L], &[L])
 }
 
 // Makes the rows those of the carry element of a slot and a closing point: the successor element of their last r coordinates under
-// the equality factors of the others.
+// the equality factors of the others. A function over slices, as `last_element` is, and no method of a slot's batching: no weights are asked.
 pub fn carry_element<L: Level>(rows: &mut [L], r: usize, slot: &[L], z: &[L], scratch: &mut [L])
     requires narrow { L.Level.log ≤ 7 }
     requires rows { length rows.old ≡ width L.Level.log }

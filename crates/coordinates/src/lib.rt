@@ -1,5 +1,5 @@
-// An element's coordinates as one number, coordinate u at bit u, and elements made from such numbers.
-// All of it is for levels of at most 128 coordinates.
+// An element's coordinates as one number, coordinate u at bit u, and elements made from such numbers, all for levels of at most 128
+// coordinates; and slices with an element for each coordinate, at any level.
 #![tactic(auto)]
 
 ghost use Rattle.std.specs.Prelude.{◌≡◌, ◌+◌, ◌*◌, ◌/◌, ◌%◌, ◌^◌, ◌<◌, ◌≤◌, max};
@@ -7,6 +7,8 @@ ghost use Rattle.level.specs.Element.{width, cut};
 ghost use Rattle.tensor_algebra.specs.Subsets.{basis};
 
 use level::level::Level;
+
+pub mod per_coordinate;
 
 // How many coordinates an element of the level has.
 pub fn width<L: Level>() -> usize
@@ -58,7 +60,8 @@ pub fn basis<L: Level>(u: usize) -> L
     from_coordinates(1 << u)
 }
 
-// Coordinate u, 0 or 1.
+// Coordinate u, 0 or 1: a number, since `with_coordinate` puts such digits together. That u is below 128 is asked where a place is read, as in
+// `basis::coefficients`.
 pub fn coordinate(coordinates: u128, u: usize) -> u128
     requires { u < 128 }
     ensures { result ≡ coordinates / 2 ^ u % 2 }

@@ -32,20 +32,19 @@ impl<L: Level> Level for Doubling<L> {
     ghost ring = { doubled_laws L.Level.ring };
 
     fn log_width() -> u8 {
-        let k = L::log_width();
-        if k < 8 { k + 1 } else { 8 }
+        (L::log_width() + 1).min(8)
     }
 
     fn zero() -> Self {
-        zero_halves()
+        Doubling::new(L::zero(), L::zero())
     }
 
     fn one() -> Self {
-        one_halves()
+        Doubling::new(L::one(), L::zero())
     }
 
     fn generator() -> Self {
-        generator_halves()
+        Doubling::new(L::zero(), L::one())
     }
 
     fn add(self, other: Self) -> Self {
@@ -94,27 +93,6 @@ impl<L: Level> Level for Doubling<L> {
 
 // What each operation comes to by halves, in the arithmetic of the level below.
 
-fn zero_halves<L: Level>() -> Doubling<L>
-    ensures low { L.means result.low ≡ zeros L.log }
-    ensures high { L.means result.high ≡ zeros L.log }
-{
-    Doubling::new(L::zero(), L::zero())
-}
-
-fn one_halves<L: Level>() -> Doubling<L>
-    ensures low { L.means result.low ≡ L.arithmetic.unit }
-    ensures high { L.means result.high ≡ zeros L.log }
-{
-    Doubling::new(L::one(), L::zero())
-}
-
-fn generator_halves<L: Level>() -> Doubling<L>
-    ensures low { L.means result.low ≡ zeros L.log }
-    ensures high { L.means result.high ≡ L.arithmetic.unit }
-{
-    Doubling::new(L::zero(), L::one())
-}
-
 fn sum_halves<L: Level>(x: Doubling<L>, y: Doubling<L>) -> Doubling<L>
     ensures low { L.means result.low ≡ plus (L.means x.low) (L.means y.low) }
     ensures high { L.means result.high ≡ plus (L.means x.high) (L.means y.high) }
@@ -149,7 +127,7 @@ fn same_halves<L: Level>(x: Doubling<L>, y: Doubling<L>) -> bool
     x.low.equals(y.low) && x.high.equals(y.high)
 }
 
-// 2^k
+// 2^k. That of the crate `coordinates` is in a crate that stands on more than levels.
 fn coordinates(k: u8) -> u32
     requires { k < 7 }
     ensures { result ≡ 2 ^ k }

@@ -32,23 +32,17 @@ pub fn parse_hex_bytes(heap: Global, text: &[u8]) -> Result<Vec<u8>, BytesFault>
         return Err(BytesFault::Odd);
     }
     let mut bytes = Vec::new(heap);
-    // An index, since a fault of a byte is told by its place in the whole text.
+    // An index and no chunks, since `parse_byte` takes the whole text and tells a fault by its place there.
     for j in 0..text.len() / 2 {
-        match parse_byte(text, j) {
-            Ok(byte) => bytes.push(byte)?,
-            Err(fault) => {
-                return Err(BytesFault::Digit {
-                    place: fault.at + 1,
-                });
-            }
-        }
+        let byte = parse_byte(text, j).map_err(|fault| BytesFault::Digit {
+            place: fault.at + 1,
+        })?;
+        bytes.push(byte)?;
     }
     Ok(bytes)
 }
 
 // A text that is refused, other than for want of memory, writes no bytes.
-pub fn byte_refusals_stand() -> u8
+pub fn byte_refusals_stand()
     ensures { RefusedWriteNoBytes }
-{
-    0
-}
+{}

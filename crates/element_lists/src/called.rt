@@ -5,7 +5,7 @@ use crate::bytes::BytesFault;
 use crate::elements::ElementsFault;
 use std::fmt;
 
-// A fault of a text that is called by a word.
+// A fault of a text that is called by a word. `BytesFault` and `ElementsFault` are printed only so, since the words for them name the text.
 #[derive(Clone, Copy, Debug, PartialEq, Eq, Drop)]
 pub struct Called<'a, F> {
     pub word: &'a str,

@@ -33,15 +33,12 @@ fn element_at<L: Level>(text: &[u8], i: usize, digits: usize) -> Result<L, Eleme
 {
     let from = i * (digits + 1);
     let end = from + digits;
-    if end < text.len() && text[end] != b' ' {
+    if text.get(end).is_some_and(|c| *c != b' ') {
         return Err(ElementsFault::Shape { digits });
     }
-    match parse_digits(&text[from..end]) {
-        Ok(x) => Ok(x),
-        Err(fault) => Err(ElementsFault::Digit {
-            place: from + fault.at + 1,
-        }),
-    }
+    parse_digits(&text[from..end]).map_err(|fault| ElementsFault::Digit {
+        place: from + fault.at + 1,
+    })
 }
 
 // The elements that a text writes, with single spaces between them.
@@ -64,8 +61,6 @@ pub fn parse_elements<L: Level>(heap: Global, text: &[u8]) -> Result<Vec<L>, Ele
 }
 
 // A text that is refused, other than for want of memory, writes no elements.
-pub fn element_refusals_stand() -> u8
+pub fn element_refusals_stand()
     ensures { RefusedWriteNoElements }
-{
-    0
-}
+{}

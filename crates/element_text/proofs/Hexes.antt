@@ -1,8 +1,6 @@
 -- The text of bytes, one byte after another.
-use Rattle.std.proofs.Common.{◌≡◌, ℕ, ◌+◌, ◌*◌, ◌-◌, ◌/◌, ◌%◌, ◌^◌, ◌<◌, false, List, [], ◌∷◌, ◌++◌, length, get_or, take, sym, refl, ap, ap₂, ◌∙◌, arith}
-use Rattle.std.proofs.lemmas.Fmt.{hex_byte}
+use Rattle.std.proofs.Common.{◌≡◌, ℕ, ◌+◌, ◌*◌, ◌/◌, ◌%◌, ◌<◌, List, [], ◌∷◌, ◌++◌, length, get_or, take, refl, ap, ◌∙◌, arith}
 use Rattle.std.proofs.lemmas.List.{take_more}
-use Rattle.std.specs.Fmt.{digits, padded_integral, format_spec}
 use Rattle.element_text.specs.Hex.{digit_code, hex}
 
 pub hex_append : (xs bs : List ℕ) → hex (xs ++ bs) ≡ hex xs ++ hex bs
@@ -18,9 +16,3 @@ pub length_hex : (bs : List ℕ) → length (hex bs) ≡ 2 * length bs
 unfolding hex
 length_hex [] = refl
 length_hex (b ∷ bs) = omega (arith, length_hex bs)
-
--- a byte written by `{:02x}`
-pub written : (bs old new : List ℕ) (i : ℕ) → i < length bs → get_or bs i 0 < 256 → old ≡ hex (take i bs)
-    → new ≡ old ++ padded_integral (format_spec 32 0 4 2 (2 ^ 64 - 1)) false [] (digits 16 false (get_or bs i 0)) → new ≡ hex (take (i + 1) bs)
-written bs old new i inside small before added =
-    added ∙ ap₂ (λ (t u : List ℕ). t ++ u) before (hex_byte false (get_or bs i 0) small) ∙ sym (hex_more bs i inside)

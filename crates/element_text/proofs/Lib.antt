@@ -1,2 +1,3 @@
 pub mod Hexes
 pub mod Parsing
+pub mod Mapped

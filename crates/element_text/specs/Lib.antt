@@ -1,2 +1,3 @@
 pub mod Hex
 pub mod Faults
+pub mod Messages

@@ -1,11 +1,15 @@
-ghost use Rattle.std.specs.Prelude.{◌≡◌, ℕ, ◌+◌, ◌*◌, ◌<◌, ◌≤◌, length, IfOk, string_bytes, MatchResult, slice_index};
+ghost use Rattle.std.specs.Prelude.{◌≡◌, ℕ, ◌+◌, ◌*◌, ◌<◌, ◌≤◌, length, Some, IfOk, string_bytes, MatchResult, slice_index};
 ghost use Rattle.element_text.specs.Faults.{BadText};
+ghost use Rattle.element_text.specs.Messages.{digit_message, text_message};
 ghost use Rattle.element_text.specs.declared.element.TextFault.TheVariants.{Digit};
 ghost use Rattle.element_text.specs.Hex.{digit_code, byte_count, element_text, Writes, NoDigit, IsDigit, Parsed, Broken, Pair};
 
-use crate::hex::{digit_value, hex_text};
+use crate::hex::{Hex, digit_value};
 use level::level::Level;
 use std::alloc::{AllocError, Global};
+use std::error::Error;
+use std::fmt;
+use std::fmt::Display;
 
 // A character of a text that is no lower-case hexadecimal digit, by its place.
 #[derive(Clone, Copy, Debug, PartialEq, Eq)]
@@ -22,6 +26,36 @@ pub enum TextFault {
     Digit { at: usize },
 }
 
+impl fmt::Display for DigitFault {
+    ghost output = { λ fault. Some (digit_message fault.at) };
+
+    fn fmt<W: fmt::Write>(&self, f: &mut fmt::Formatter<W>) -> fmt::Result {
+        let at = self.at;
+        write!(
+            f,
+            "the character at {at}, counted from 0, is no lower-case hexadecimal digit"
+        )
+    }
+}
+
+impl Error for DigitFault {}
+
+impl fmt::Display for TextFault {
+    ghost output = { λ fault. Some (text_message fault) };
+
+    fn fmt<W: fmt::Write>(&self, f: &mut fmt::Formatter<W>) -> fmt::Result {
+        match *self {
+            TextFault::Length { expected, actual } => write!(
+                f,
+                "the text has {actual} characters in place of {expected}"
+            ),
+            TextFault::Digit { at } => DigitFault { at }.fmt(f),
+        }
+    }
+}
+
+impl Error for TextFault {}
+
 impl From<DigitFault> for TextFault {
     ghost from_gives = { λ fault r. r ≡ Digit fault.at };
 
@@ -30,28 +64,33 @@ impl From<DigitFault> for TextFault {
     }
 }
 
-// How many bytes the text of an element shows.
+// How many bytes the text of an element shows. Told for every level, where `num_bytes` of `coordinates` is for those of at most 128
+// coordinates alone.
 pub fn byte_count<L: Level>() -> usize
     ensures value { result ≡ byte_count L.Level.log }
     ensures bound { result ≤ 16 }
 {
-    let k = L::log_width();
-    if k < 3 {
-        1
-    } else if k < 7 {
-        1 << (k - 3)
-    } else {
-        16
+    1 << (L::log_width().clamp(3, 7) - 3)
+}
+
+// An element as its text.
+#[derive(Clone, Copy)]
+pub struct Shown<L>(pub L);
+
+impl<L: Level> fmt::Display for Shown<L> {
+    ghost output = { λ x. Some (element_text (L.means x.0)) };
+
+    fn fmt<W: fmt::Write>(&self, f: &mut fmt::Formatter<W>) -> fmt::Result {
+        let bytes = self.0.to_bytes();
+        Hex(&bytes[..byte_count::<L>()]).fmt(f)
     }
 }
 
 // The text of an element.
-#[tactic(auto, unfolding(crate::specs::Hex::element_text))]
 pub fn element_text<L: Level>(heap: Global, x: L) -> Result<String, AllocError>
     ensures { IfOk result (λ s. string_bytes s ≡ element_text (L.means x)) }
 {
-    let bytes = x.to_bytes();
-    hex_text(heap, &bytes[0..byte_count::<L>()])
+    format!(in heap; "{}", Shown(x))
 }
 
 // The number that the digit at a place of a text stands for.
@@ -72,7 +111,8 @@ pub fn parse_byte(text: &[u8], j: usize) -> Result<u8, DigitFault>
     Ok(16 * high + low)
 }
 
-// The bytes that a text writes, and zeroes after them, or its first character that is no digit.
+// The bytes that a text writes, and zeroes after them, or its first character that is no digit. Sixteen by value, as a level takes them.
+// By index, since a fault of a byte is told by its place in the whole text; the count is what the level tells, of which the text has twice.
 fn parse_bytes(text: &[u8], count: usize) -> Result<[u8; 16], DigitFault>
     requires { (length text.now ≡ 2 * count) × (count ≤ 16) }
     ensures { MatchResult result (Parsed count text.now) (λ fault. (fault.at < 2 * count) × Broken text.now fault.at) }

@@ -1,7 +1,7 @@
-ghost use Rattle.std.specs.Prelude.{◌≡◌, ℕ, ◌%◌, ◌<◌, IfOk, string_bytes, MatchOption};
+ghost use Rattle.std.specs.Prelude.{◌≡◌, ◌<◌, MatchOption, Some};
 ghost use Rattle.element_text.specs.Hex.{digit_code, hex, NoDigit};
 
-use std::alloc::{AllocError, Global};
+use std::fmt;
 
 // The number that a lower-case hexadecimal digit stands for.
 pub fn digit_value(c: u8) -> Option<u8>
@@ -15,13 +15,17 @@ pub fn digit_value(c: u8) -> Option<u8>
     }
 }
 
-// The text of bytes.
-pub fn hex_text(heap: Global, bytes: &[u8]) -> Result<String, AllocError>
-    ensures { IfOk result (λ s. string_bytes s ≡ hex bytes.now) }
-{
-    let mut text = String::new(heap);
-    for b in bytes {
-        write!(text, "{b:02x}")?;
+// Bytes as text: two lower-case digits each, without gaps.
+#[derive(Clone, Copy)]
+pub struct Hex<'a>(pub &'a [u8]);
+
+impl<'a> fmt::Display for Hex<'a> {
+    ghost output = { λ x. Some (hex x.0.now) };
+
+    fn fmt<W: fmt::Write>(&self, f: &mut fmt::Formatter<W>) -> fmt::Result {
+        for &byte in self.0 {
+            write!(f, "{byte:02x}")?;
+        }
+        Ok(())
     }
-    Ok(text)
 }

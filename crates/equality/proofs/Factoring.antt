@@ -1,5 +1,5 @@
 -- Tables held as two factors.
-use Rattle.std.proofs.Common.{◌≡◌, ℕ, zero, suc, ◌+◌, ◌-◌, ◌*◌, ◌/◌, ◌%◌, ◌^◌, ◌<◌, ◌≤◌, List, map, length, take, drop, sym, ap, ◌∙◌, subst, ap₂, subst₂, arith, length-drop}
+use Rattle.std.proofs.Common.{◌≡◌, ℕ, zero, suc, ◌+◌, ◌-◌, ◌*◌, ◌/◌, ◌%◌, ◌^◌, ◌<◌, ◌≤◌, List, map, length, take, drop, sym, ap, ◌∙◌, subst, ap₂, subst₂, arith}
 use lib.Arith.{mul_pred, digits_div, digits_mod}
 use lib.ListN.{length-map}
 use Rattle.std.proofs.lemmas.Nat.{div-add-mod', div_below, mod_below}
@@ -10,14 +10,6 @@ use Rattle.multilinear.specs.Equality.{Point, entry, equality, outer, inner, inn
 use Rattle.multilinear.specs.Lent.{lent}
 use Rattle.multilinear.proofs.Entries.{factored}
 use Rattle.equality.specs.Tables.{Tabulated, Factors}
-
--- there is an inner entry for each index of the last coordinates
-pub inner_size : {X : Type 0} (point last : List X) (n : ℕ) → last ≡ drop (length point - inner_count (length point)) point → n ≡ 2 ^ inner_count (length point)
-    → n ≡ 2 ^ length last
-inner_size point last n e size =
-    let l = length point in
-    let all : inner_count l ≡ length last = omega (arith, ap length e, length-drop (l - inner_count l) point) in
-    size ∙ ap (λ j. 2 ^ j) all
 
 module _ {X : Type 0} {k : ℕ} (means : X → Element k) (A : Arithmetic k) where
   -- the two parts of a point, by what they mean

@@ -1,11 +1,10 @@
 -- A table that is being widened, entry by entry: its entries in the lower half, and room in the upper.
-use Rattle.std.proofs.Common.{◌≡◌, ℕ, ◌+◌, ◌-◌, ◌<◌, ◌≤◌, List, ◌++◌, map, length, get_or, set, sym, refl, ap, ◌∙◌, arith, below_more}
-use lib.ListN.{length-map}
-use Rattle.std.proofs.lemmas.List.{get_or_append_left, get_or-append_right, get_or-map, map-append}
+use Rattle.std.proofs.Common.{◌≡◌, ℕ, ◌+◌, ◌-◌, ◌<◌, ◌≤◌, List, ◌++◌, length, get_or, set, sym, ap, ◌∙◌, arith, below_more}
+use Rattle.std.proofs.lemmas.List.{get_or-map}
 use Rattle.level.specs.Element.{Element, plus, zeros}
 use Rattle.level.specs.Laws.{Arithmetic}
 use Rattle.multilinear.specs.Lent.{lent}
-use Rattle.multilinear.proofs.Lent.{lent_written, lent_kept}
+use Rattle.multilinear.proofs.Lent.{lent_written, lent_kept, lent_front, lent_back}
 use Rattle.equality.specs.Tables.{Widened}
 
 -- the entries below `done` are split between the halves, and the others stand as they were
@@ -16,21 +15,7 @@ pub record Widening {k : ℕ} (A : Arithmetic k) (x : Element k) (done : ℕ) (l
   pub rest : (i : ℕ) → done ≤ i → high i ≡ high_before i
 
 module _ {X : Type 0} {k : ℕ} (means : X → Element k) where
-  -- two halves joined
-  lent_front : (xs ys : List X) (i : ℕ) → i < length xs → lent means (xs ++ ys) i ≡ lent means xs i
-  lent_front xs ys i h =
-      ap (λ zs. get_or zs i (zeros k)) (map-append means xs ys) ∙ get_or_append_left (map means xs) (map means ys) (zeros k) i (omega (arith, length-map xs means))
-
-  lent_back : (xs ys : List X) (n i : ℕ) → length xs ≡ n → n ≤ i → lent means (xs ++ ys) i ≡ lent means ys (i - n)
-  lent_back xs ys n i size h =
-      ap (λ zs. get_or zs i (zeros k)) (map-append means xs ys)
-      ∙ get_or-append_right (map means xs) (map means ys) n i (zeros k) (length-map xs means ∙ size) h
-
   module _ (A : Arithmetic k) (x : Element k) where
-    pub widening_begins : (low high : ℕ → Element k) → Widening A x 0 low high low high
-    widening_begins low high =
-        record { first = λ i h. absurd (omega arith); second = λ i h. absurd (omega arith); kept = λ i h. refl; rest = λ i h. refl }
-
     -- one entry more
     pub widening_more : (done : ℕ) (low_before high_before : ℕ → Element k) (lows highs : List X) (t low high : X)
         → done < length lows → done < length highs
@@ -54,14 +39,14 @@ module _ {X : Type 0} {k : ℕ} (means : X → Element k) where
         → Widened A x half (lent means before) (lent means (lows ++ highs))
     widening_ends half done before lows_before highs_before lows highs parts size_before size all most w =
         let front : (i : ℕ) → i < half → lent means lows_before i ≡ lent means before i =
-        λ i g. sym (ap (λ xs. lent means xs i) parts ∙ lent_front lows_before highs_before i (omega arith)) in
+        λ i g. sym (ap (λ xs. lent means xs i) parts ∙ lent_front means lows_before highs_before i (omega arith)) in
         record {
-          low = λ i g. lent_front lows highs i (omega arith) ∙ w.first i (omega arith) ∙ ap (λ e. plus e (A.times x e)) (front i g);
+          low = λ i g. lent_front means lows highs i (omega arith) ∙ w.first i (omega arith) ∙ ap (λ e. plus e (A.times x e)) (front i g);
           high = λ i g.
               let place : half + i - half ≡ i = omega arith in
-              lent_back lows highs half (half + i) size (omega arith) ∙ ap (lent means highs) place ∙ w.second i (omega arith)
+              lent_back means lows highs half (half + i) size (omega arith) ∙ ap (lent means highs) place ∙ w.second i (omega arith)
               ∙ ap (A.times x) (front i g);
           rest = λ i g.
-              lent_back lows highs half i size (omega arith) ∙ w.rest (i - half) (omega arith)
-              ∙ sym (ap (λ xs. lent means xs i) parts ∙ lent_back lows_before highs_before half i size_before (omega arith));
+              lent_back means lows highs half i size (omega arith) ∙ w.rest (i - half) (omega arith)
+              ∙ sym (ap (λ xs. lent means xs i) parts ∙ lent_back means lows_before highs_before half i size_before (omega arith));
         }

@@ -24,7 +24,7 @@ pub fn outer_variables(num_variables: usize) -> usize
     num_variables - inner_variables(num_variables)
 }
 
-// A point in two: the coordinates of the outer factor, and those of the inner.
+// A point in two, as `split_at` answers it: the coordinates of the outer factor, and those of the inner.
 fn halves<L: Level>(point: &[L]) -> (&[L], &[L])
     ensures outer { result.0.now ≡ take (length point.now - inner_count (length point.now)) point.now }
     ensures inner { result.1.now ≡ drop (length point.now - inner_count (length point.now)) point.now }
@@ -32,7 +32,8 @@ fn halves<L: Level>(point: &[L]) -> (&[L], &[L])
     point.split_at(outer_variables(point.len()))
 }
 
-// Writes the two factors of a point's equality table, the inner one begun from a start value.
+// Writes the two factors of a point's equality table, the inner one begun from a start value. How long the two are stands here and not
+// in a type: a struct of two slices that are written would have to promise, of each, that it is the slice that was lent.
 pub fn factor<L: Level>(outer: &mut [L], inner: &mut [L], point: &[L], start: L)
     requires outer_len { length outer.old ≡ 2 ^ (length point.now - inner_count (length point.now)) }
     requires inner_len { length inner.old ≡ 2 ^ inner_count (length point.now) }
@@ -72,7 +73,7 @@ fn split_index(index: usize, len: usize) -> Position
 }
 
 // The equality table of a point, held as an outer factor, with an entry for each block, times an inner factor, with an entry for
-// each place of a block.
+// each place of a block. That a block is not empty stands at the methods that need it: the others take factors of any length.
 #[derive(Clone, Copy, Debug)]
 pub struct FactoredEquality<'a, L> {
     pub outer: &'a [L],

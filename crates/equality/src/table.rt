@@ -5,16 +5,27 @@ ghost use Rattle.equality.specs.Tables.{Widened, Tabulated};
 
 use level::level::Level;
 
-// An entry split by a coordinate x: what it is at the coordinate's bit 0, and at its bit 1. One product.
-fn split<L: Level>(entry: L, x: L) -> (L, L)
-    ensures low { L.means result.0 ≡ plus (L.means entry) (L.arithmetic.times (L.means x) (L.means entry)) }
-    ensures high { L.means result.1 ≡ L.arithmetic.times (L.means x) (L.means entry) }
-{
-    let high = x.mul(entry);
-    (entry.add(high), high)
+// An entry split by a coordinate: what it is at the coordinate's bit 0, and at its bit 1.
+#[derive(Clone, Copy)]
+struct SplitEntry<L> {
+    at_zero: L,
+    at_one: L,
 }
 
-// Widens a table of `half` entries by one coordinate at a more significant bit.
+// An entry split by a coordinate x. One product.
+fn split<L: Level>(entry: L, x: L) -> SplitEntry<L>
+    ensures low { L.means result.at_zero ≡ plus (L.means entry) (L.arithmetic.times (L.means x) (L.means entry)) }
+    ensures high { L.means result.at_one ≡ L.arithmetic.times (L.means x) (L.means entry) }
+{
+    let at_one = x.mul(entry);
+    SplitEntry {
+        at_zero: entry.add(at_one),
+        at_one,
+    }
+}
+
+// Widens a table of `half` entries by one coordinate at a more significant bit. The number stands beside the table, of which more is filled
+// each time.
 fn widen<L: Level>(table: &mut [L], half: usize, x: L)
     requires { half + half ≤ length table.old }
     ensures { Widened L.arithmetic (L.means x) half (lent L.means table.old) (lent L.means table.new) }
@@ -23,9 +34,9 @@ fn widen<L: Level>(table: &mut [L], half: usize, x: L)
 
     // An index into the upper half, since of what is written through a zip of the two a proof knows only the length.
     for (i, entry) in low.iter_mut().enumerate() {
-        let (at_zero, at_one) = split(*entry, x);
-        *entry = at_zero;
-        high[i] = at_one;
+        let split_entry = split(*entry, x);
+        *entry = split_entry.at_zero;
+        high[i] = split_entry.at_one;
     }
 }
 

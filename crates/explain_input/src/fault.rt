@@ -1,8 +1,9 @@
 ghost use Rattle.std.specs.Prelude.{◌≡◌, Some};
 ghost use Rattle.explain_input.specs.Messages.{input_message};
-ghost use Rattle.explain_input.specs.declared.fault.InputFault.TheVariants.{Memory};
+ghost use Rattle.explain_input.specs.declared.fault.InputFault.TheVariants.{Letter, Memory};
 
 use crate::key::Key;
+use level_name::UnknownLetter;
 use std::alloc::AllocError;
 use std::error::Error;
 use std::fmt;
@@ -43,6 +44,14 @@ impl fmt::Display for InputFault {
 }
 
 impl Error for InputFault {}
+
+impl From<UnknownLetter> for InputFault {
+    ghost from_gives = { λ e r. r ≡ Letter };
+
+    fn from(_e: UnknownLetter) -> InputFault {
+        InputFault::Letter
+    }
+}
 
 impl From<AllocError> for InputFault {
     ghost from_gives = { λ e r. r ≡ Memory };

@@ -56,10 +56,10 @@ fn needed_text<'a>(text: &'a [u8], key: Key) -> Result<&'a [u8], InputFault>
 fn read_level(text: &[u8]) -> Result<LevelName, InputFault>
     ensures { MatchResult result (λ level. (texts Level (lines text.now) ≡ (letter_of level ∷ []) ∷ []) × Letter (letter_of level ∷ []) (letter_of level)) (BadInput text.now) }
 {
-    parse_level(needed_text(text, Key::Level)?).ok_or(InputFault::Letter)
+    parse_level(needed_text(text, Key::Level)?)
 }
 
-// The row variables of the view.
+// The row variables of the view. A match, as in `problem::reading`, where `transpose` leaves the clause open.
 fn read_view(text: &[u8]) -> Result<Option<usize>, InputFault>
     ensures { MatchResult result (Optional Number (texts View (lines text.now))) (BadInput text.now) }
 {
@@ -98,11 +98,9 @@ pub fn read_input<'a>(heap: Global, text: &'a [u8]) -> Result<Input<'a>, InputFa
 }
 
 // An input that is refused, other than for want of memory, says nothing.
-pub fn refusals_stand() -> u8
+pub fn refusals_stand()
     ensures { RefusedSayNothing }
-{
-    0
-}
+{}
 
 #[cfg(test)]
 mod tests {

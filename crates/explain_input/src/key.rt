@@ -28,7 +28,7 @@ impl Key {
         Key::Closing,
     ];
 
-    // The word that a line of this key begins with.
+    // The word that a line of this key begins with: matched against a line here, and printed by `Display`.
     pub fn word(self) -> &'static str
         ensures { result.now ≡ word_of self }
     {
@@ -93,8 +93,6 @@ pub(crate) fn has_key(line: &[u8]) -> bool
 }
 
 // What the lines of a text are, and what a line gives for a word.
-pub fn reading_stands() -> u8
+pub fn reading_stands()
     ensures { Reading }
-{
-    0
-}
+{}

@@ -4,7 +4,7 @@ ghost use Rattle.explain_input.specs.Keys.{lines, texts, readable, unreadable};
 
 use crate::key::{Key, has_key, text_after};
 
-// The first line of a text, and the text of the lines after it.
+// The first line of a text, and the text of the lines after it, a pair as `split_at` answers it.
 fn split_line(text: &[u8]) -> (&[u8], &[u8])
     requires { 0 < length text.now }
     ensures { lines text.now ≡ result.0.now ∷ lines result.1.now }
@@ -15,7 +15,8 @@ fn split_line(text: &[u8]) -> (&[u8], &[u8])
     }
 }
 
-// The lines of a text, in their order: each ends at a newline, the last also with the text.
+// The lines of a text, in their order: each ends at a newline, the last also with the text. No `split` at newlines, which gives one more
+// line, an empty one, where a newline ends the text.
 #[derive(Drop)]
 struct Lines<'a>(&'a [u8]);
 
@@ -64,6 +65,7 @@ impl<'a> Iterator for Texts<'a> {
     ghost remaining = { item_count (λ s. texts s.key (lines s.lines.0.now)) };
 
     fn next(&mut self) -> Option<&'a [u8]> {
+        // Tried with `find_map`: what its calls leave of the lines is known by their run alone, and `returns-clause-steps` stays open.
         while let Some(line) = self.lines.next() {
             if let Some(text) = text_after(line, self.key) {
                 return Some(text);

@@ -1,7 +1,9 @@
-ghost use Rattle.std.specs.Prelude.{◌≡◌, MatchOption};
+ghost use Rattle.std.specs.Prelude.{◌≡◌, MatchOption, MatchResult};
 ghost use Rattle.explain_input.specs.Values.{Number, NoNumber, Letter, NoLetter};
+ghost use Rattle.explain_input.specs.declared.fault.InputFault.TheVariants as fault;
 ghost use Rattle.level_name.specs.Names.{letter_of};
 
+use crate::fault::InputFault;
 use level_name::LevelName;
 use std::str::from_utf8;
 
@@ -16,11 +18,11 @@ pub(crate) fn parse_number(text: &[u8]) -> Option<usize>
 }
 
 // The level whose letter is the whole text.
-pub(crate) fn parse_level(text: &[u8]) -> Option<LevelName>
-    ensures { MatchOption result (NoLetter text.now) (λ level. Letter text.now (letter_of level)) }
+pub(crate) fn parse_level(text: &[u8]) -> Result<LevelName, InputFault>
+    ensures { MatchResult result (λ level. Letter text.now (letter_of level)) (λ e. (e ≡ fault.Letter) × NoLetter text.now) }
 {
     match text {
-        [letter] => LevelName::try_from(char::from(*letter)).ok(),
-        _ => None,
+        [letter] => Ok(LevelName::try_from(char::from(*letter))?),
+        _ => Err(InputFault::Letter),
     }
 }

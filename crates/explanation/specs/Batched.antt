@@ -3,7 +3,7 @@ use Rattle.std.specs.Prelude.{ℕ, map}
 use Rattle.level.specs.Element.{Element}
 use Rattle.plain.specs.Steps.{steps}
 use Rattle.report_lines.specs.Batched.{Batching}
-use Rattle.explanation.specs.declared.steps.BatchedSlot.{BatchedSlot}
+use Rattle.explanation.specs.declared.batched_slot.BatchedSlot.{BatchedSlot}
 
 abbrev pub batching_of : {X : Type 0} {k : ℕ} → (X → Element k) → BatchedSlot X → Batching k
 batching_of means b = record {

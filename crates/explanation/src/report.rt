@@ -1,13 +1,14 @@
-ghost use Rattle.std.specs.Prelude.{◌≡◌, ◌^◌, ◌<◌, ◌≤◌, ◌++◌, map, length, IfOk, Some, None, string_bytes};
+ghost use Rattle.std.specs.Prelude.{◌≡◌, ◌<◌, ◌≤◌, ◌++◌, map, length, IfOk, Some, None, string_bytes};
 ghost use Rattle.refusals.specs.Steps.{told, opening};
 ghost use Rattle.problem.specs.Task.{task_of};
 ghost use Rattle.report_lines.specs.Report.{variables_of, batched_text, opened_text, report_text, Reported};
 
-use crate::step_lines::{batch_lines, closing_lines, packed_lines};
+use crate::step_lines::{batch_lines, packed_lines};
 use crate::steps::{batch, open};
 use level::level::Level;
 use problem::problem::Problem;
 use replies::reporter::Reporter;
+use report_lines::closings::closing_lines;
 use report_lines::finish::finish;
 use report_lines::opening::opening_lines;
 use report_lines::stop::Stop;
@@ -29,10 +30,11 @@ fn batched_lines<'a, L: Level>(
     let point = problem.point.as_slice();
     let batched = batch(bits, point, problem.view, batching, problem.challenge)?;
     batch_lines(out, &batched)?;
-    closing_lines(out, &batched, problem.closings.as_slice())
+    closing_lines(out, problem.closings.as_slice(), |z| batched.close(z))
 }
 
-// Adds the lines of a problem past its packed elements, until a step is refused.
+// Adds the lines of a problem past its packed elements, until a step is refused. Clauses bound the number of variables here and of the
+// point's coordinates above: each follows from the test before it, and a type for one call would be longer.
 fn opened_lines<L: Level>(
     out: &mut String,
     problem: &Problem<L>,
@@ -57,7 +59,6 @@ fn opened_lines<L: Level>(
 // two ways: tables pass from step to step there and none do here, so that one function would need a trait with a type for what each step
 // passes on.
 fn problem_lines<L: Level>(out: &mut String, problem: &Problem<L>) -> Result<(), Stop>
-    requires { length problem.now.bits.items ≤ 2 ^ 24 }
     ensures { Reported result (string_bytes out.new) (string_bytes out.old ++ report_text L.arithmetic (task_of L.means problem.now)) }
 {
     let bits = problem.bits.as_slice();
@@ -68,7 +69,6 @@ fn problem_lines<L: Level>(out: &mut String, problem: &Problem<L>) -> Result<(),
 
 // The report of a problem: its lines, and a last one where a step is refused.
 pub fn report<L: Level>(heap: Global, problem: &Problem<L>) -> Result<String, AllocError>
-    requires { length problem.now.bits.items ≤ 2 ^ 24 }
     ensures { IfOk result (λ s. string_bytes s ≡ report_text L.arithmetic (task_of L.means problem.now)) }
 {
     let mut out = String::new(heap);

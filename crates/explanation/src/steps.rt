@@ -3,7 +3,6 @@ ghost use Rattle.std.specs.Option.{option_map};
 ghost use Rattle.multilinear.specs.Cells.{cell};
 ghost use Rattle.multilinear.specs.Equality.{equality};
 ghost use Rattle.ring_switch.specs.Batching.{closing_value};
-ghost use Rattle.ring_switch.specs.BatchingLaws.{RowsWithin};
 ghost use Rattle.refusals.specs.Refusals.{ring_switch_refusal, refused};
 ghost use Rattle.refusals.specs.Steps.{told, opening, closing};
 ghost use Rattle.plain.specs.Steps.{steps};
@@ -11,23 +10,16 @@ ghost use Rattle.report_lines.specs.Opened.{open_refusal, values_at, values_of};
 ghost use Rattle.report_lines.specs.Batched.{batch_refusal, slot_batching};
 ghost use Rattle.explanation.specs.Batched.{batching_of};
 
+use crate::batched_slot::BatchedSlot;
 use level::level::Level;
 use plain::batching::Batching;
 use plain::opening::{fixed_prefix, kept_row_variables, slot};
 use plain::slots::Slot;
 use plain::values::{successor_value, table_value};
 use refusals::faults::BitRingSwitchError;
-use refusals::steps::{check_batching, check_closing, check_opening, check_width};
-use report_lines::opening::Opening;
+use refusals::steps::{check_batching, check_closing};
+use report_lines::opening::{Opening, check_open};
 use report_lines::stepping::stepping_of;
-
-// A batching of the packed elements of a slot, with the initial sum. The bounds on its rows and its length stand at each function: a
-// ghost field would hold the bound on the rows, which is told by cases, only truncated.
-#[derive(Drop)]
-pub struct BatchedSlot<'a, L> {
-    pub batching: Batching<'a, L>,
-    pub initial: L,
-}
 
 // The values of the opening at a point, where the bytes hold 2^variables packed elements.
 pub fn open<L: Level>(
@@ -41,8 +33,7 @@ pub fn open<L: Level>(
     ensures refusal { refused ring_switch_refusal result ≡ open_refusal L.Level.log variables (length point.now) view }
     ensures opened { IfOk result (λ o. values_of L.means o ≡ values_at L.arithmetic (cell bits.now) (map L.means point.now) view) }
 {
-    check_opening::<L>(point.len(), view)?;
-    check_width(point.len() - usize::from(L::log_width()), variables)?;
+    check_open::<L>(variables, point.len(), view)?;
     Ok(Opening {
         incoming: table_value(bits, point),
         successor: view.map(|q| successor_value(bits, point, q)),
@@ -50,7 +41,8 @@ pub fn open<L: Level>(
     })
 }
 
-// The batching of an opening's slot, with the initial sum.
+// The batching of an opening's slot, with the initial sum. Of a problem it is handed the parts that it reads, since the batching point is
+// there only in some.
 pub fn batch<'a, L: Level>(
     bits: &[u8],
     point: &'a [L],
@@ -63,8 +55,6 @@ pub fn batch<'a, L: Level>(
     requires opened { opening (told L.Level.log) (length point.now) view ≡ None }
     ensures refusal { refused ring_switch_refusal result ≡ batch_refusal L.Level.log view challenge (length batching.now) }
     ensures batched { IfOk result (λ b. batching_of L.means b ≡ slot_batching L.arithmetic (cell bits.now) (map L.means point.now) view (map L.means batching.now) (option_map L.means challenge)) }
-    ensures rows { IfOk result (λ b. RowsWithin (steps L.means b.batching.stepping) (length b.batching.slot.now)) }
-    ensures short { IfOk result (λ b. length b.batching.slot.now < 64) }
 {
     let rows = kept_row_variables::<L>(view);
     check_batching::<L>(rows.is_some(), challenge.is_some(), batching.len())?;
@@ -80,10 +70,9 @@ pub fn batch<'a, L: Level>(
 
 impl<'a, L: Level> BatchedSlot<'a, L> {
     // The closing value at a point.
+    #[tactic(auto, using(crate::proofs::Rows::within))]
     pub fn close(&self, z: &[L]) -> Result<L, BitRingSwitchError>
         requires narrow { L.Level.log ≤ 7 }
-        requires rows { RowsWithin (steps L.means self.now.batching.stepping) (length self.now.batching.slot.now) }
-        requires short { length self.now.batching.slot.now < 64 }
         ensures refusal { refused ring_switch_refusal result ≡ closing (length self.now.batching.slot.now) (length z.now) }
         ensures value { IfOk result (λ x. L.means x ≡ closing_value L.arithmetic (equality L.arithmetic (map L.means self.now.batching.point.now)) (map L.means self.now.batching.slot.now) (steps L.means self.now.batching.stepping) (map L.means z.now)) }
     {

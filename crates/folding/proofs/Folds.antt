@@ -10,7 +10,7 @@ use Rattle.level.specs.Laws.{Arithmetic}
 use Rattle.multilinear.proofs.Lent.{lent_read}
 use Rattle.multilinear.proofs.Sums.{sum_same}
 use Rattle.tensor_algebra.specs.Tensor.{Tensor, nothing, exterior, add, scale_columns}
-use Rattle.tensor_rows.proofs.Places.{of_part}
+use Rattle.multilinear.proofs.Places.{of_part}
 use Rattle.folding.specs.Folds.{block, with_all}
 
 module _ {k : ℕ} (t : Tensor k) (g : ℕ → Tensor k) where

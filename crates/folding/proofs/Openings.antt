@@ -15,7 +15,7 @@ use Rattle.ring_switch.specs.ClaimLaws.{opened, opened_carry, opened_last}
 use Rattle.ring_switch.specs.Slots.{in_slot}
 use Rattle.ring_switch.proofs.SlotTensors.{slot, stepped_slot}
 use Rattle.folding.specs.Openings.{Opens, SlotOpens}
-use Rattle.tensor_rows.proofs.Places.{of_part}
+use Rattle.multilinear.proofs.Places.{of_part}
 use Rattle.folding.proofs.Slots.{size_is}
 
 -- tensors of packed elements that agree

@@ -95,10 +95,18 @@ first_enters r m e values b t v x y h before first made =
     made ∙ fun_ext (λ u. ap₂ (λ i j. plus (t u) (exterior i j u)) before first
     ∙ ap (λ c. plus (t u) (where_set (not c) (exterior (e (b * m - 1)) (values (b * m)) u))) (sym h))
 
--- a block whose first element starts no column is not the first
-pub later_block : (r m b : ℕ) → starts r (b * m) ≡ false → 0 < b
-later_block r m zero h = absurd (no_lies (sym h ∙ ap (λ i. starts r i) (zero-mul m) ∙ ap (λ i. eqb i 0) (zero-mod (2 ^ r))))
+-- a block whose first element starts no column is not the first, and blocks are not empty then
+later_entry : (r i : ℕ) → starts r i ≡ false → 0 < i
+later_entry r zero h = absurd (no_lies (sym h ∙ ap (λ i. eqb i 0) (zero-mod (2 ^ r))))
   where
     no_lies : ◌≡◌ {A = Bool} false true → ⊥
     no_lies e = let z : ◌≡◌ {A = ℕ} 0 1 = cc in omega arith
+later_entry r (suc i) h = omega arith
+
+pub later_block : (r m b : ℕ) → starts r (b * m) ≡ false → 0 < b
+later_block r m zero h = omega (arith, later_entry r (0 * m) h, zero-mul m)
 later_block r m (suc b) h = omega arith
+
+pub block_filled : (r m b : ℕ) → starts r (b * m) ≡ false → 0 < m
+block_filled r zero b h = omega (arith, later_entry r (b * 0) h)
+block_filled r (suc m) b h = omega arith

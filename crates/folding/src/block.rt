@@ -7,6 +7,7 @@ ghost use Rattle.products.specs.Buckets.{bytes};
 ghost use Rattle.folding.specs.Folds.{block, with_all};
 
 use crate::slot_table::SlotTable;
+use coordinates::per_coordinate::PerCoordinate;
 use coordinates::{whole_bytes, width};
 use level::level::Level;
 use products::factors::LeftFactors;
@@ -37,7 +38,7 @@ fn add_block<L: Level>(
 {
     let (buckets, sum) = scratch.split_at_mut(256 * whole_bytes::<L>());
     left.sum(right, buckets, sum);
-    add_scaled_columns(rows, sum, weight);
+    add_scaled_columns(rows, PerCoordinate { elements: sum }, weight);
 }
 
 // The elements of block b, of `len` elements to a block.

@@ -21,7 +21,6 @@ impl<'a, L: Level> SlotTable<'a, L> {
     fn add_entering(&self, rows: &mut [L], columns: Columns, b: usize)
         requires narrow { L.Level.log ≤ 7 }
         requires place { b < length self.now.equality.outer.now }
-        requires filled { 0 < length self.now.equality.inner.now }
         requires rows { length rows.old ≡ width L.Level.log }
         ensures { (s : Element L.Level.log) (p : Point L.Level.log) → Factors L.means L.arithmetic s p self.now.equality.outer.now self.now.equality.inner.now → lent L.means rows.new ≡ add (lent L.means rows.old) (entering columns.row_variables (length self.now.equality.inner.now) (entry L.arithmetic s p) (lent L.means self.now.values.now) b) }
     {
@@ -34,7 +33,6 @@ impl<'a, L: Level> SlotTable<'a, L> {
     // Adds what enters each block from the block before. A block's index says where it begins and which entry stands before it.
     fn add_all_entering(&self, rows: &mut [L], columns: Columns)
         requires narrow { L.Level.log ≤ 7 }
-        requires filled { 0 < length self.now.equality.inner.now }
         requires rows { length rows.old ≡ width L.Level.log }
         ensures { (s : Element L.Level.log) (p : Point L.Level.log) → Factors L.means L.arithmetic s p self.now.equality.outer.now self.now.equality.inner.now → lent L.means rows.new ≡ with_all (lent L.means rows.old) (entering columns.row_variables (length self.now.equality.inner.now) (entry L.arithmetic s p) (lent L.means self.now.values.now)) (length self.now.equality.outer.now) }
     {
@@ -55,7 +53,6 @@ impl<'a, L: Level> SlotTable<'a, L> {
     )
         requires wide { 3 ≤ L.Level.log }
         requires narrow { L.Level.log ≤ 7 }
-        requires filled { 0 < length self.now.equality.inner.now }
         requires shifted { length shifted_inner.old ≡ length self.now.equality.inner.now }
         requires rows { length rows.old ≡ width L.Level.log }
         requires scratch { length scratch.old ≡ 256 * bytes L.Level.log + width L.Level.log }

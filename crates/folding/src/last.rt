@@ -23,8 +23,8 @@ impl<'a, L: Level> SlotTable<'a, L> {
     }
 
     // Makes the rows those of the last of the slot: the sum of e(w) ⊗ values[w] over the w that end a column, with e the equality
-    // table that the factors hold. One entry in a column ends it, so its weight is formed directly. The columns go by their index,
-    // since the equality table's entry and the element stand at one place.
+    // table that the factors hold. One entry in a column ends it, so its weight is formed directly. The columns go by their index:
+    // `Columns::last` says at which place the table's entry and the element stand, and a `step_by` would say it a second time.
     pub fn last(&self, columns: Columns, rows: &mut [L])
         requires narrow { L.Level.log ≤ 7 }
         requires columns { length self.now.values.now % 2 ^ columns.row_variables ≡ 0 }

@@ -1,5 +1,7 @@
 // Tensors of a slot folded block by block: the equality table is held in two factors, each block is summed against what all blocks share,
 // and the block's own weight scales the columns of that sum once. `tensor` folds the tensor, `carry` and `last` the successor tensors.
+// A slice that is written keeps a clause on its length: a struct over it would owe, in each function that writes, a clause that it is still
+// the same slice.
 #![tactic(auto)]
 
 pub mod block;

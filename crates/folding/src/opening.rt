@@ -38,7 +38,6 @@ impl<'a, L: Level> SlotTable<'a, L> {
     )
         requires wide { 3 ≤ L.Level.log }
         requires narrow { L.Level.log ≤ 7 }
-        requires filled { 0 < length self.now.equality.inner.now }
         requires shifted { length shifted_inner.old ≡ length self.now.equality.inner.now }
         requires rows { length rows.old ≡ width L.Level.log }
         requires scratch { length scratch.old ≡ 256 * bytes L.Level.log + width L.Level.log }

@@ -7,6 +7,11 @@ ghost use Rattle.level.specs.Laws.{Arithmetic, Laws};
 //
 // The ghost members say what an implementation means, and `ring` is the law that each proves. All of them speak of what
 // elements mean, so a level may hold one element in several stored forms.
+//
+// Functions that need a width ask `log ≤ 7` or `3 ≤ log` in their contracts. A bound here would be asked of every level that others
+// bring, and a narrower trait of every level that reaches a report, where a wider one is refused by a test as the program runs.
+//
+// Functions by name and no operators, `==` or `From`, and sixteen bytes by value: rules of the project. `==` would compare stored forms.
 pub trait Level: Copy {
     // k
     ghost log: { ℕ };
@@ -17,7 +22,8 @@ pub trait Level: Copy {
     // the product, one and the generator
     ghost arithmetic: { Arithmetic log };
 
-    // k up to 7, and 8 for every wider level
+    // k up to 7, and 8 for every wider level: a rule of the project, and no missing value, since packing refuses with
+    // `LevelTooWide` where this is above 7.
     fn log_width() -> u8
         ensures { result ≡ min log 8 };
 

@@ -7,8 +7,6 @@ ghost use Rattle.level.specs.Bytes.{BytesAreCoordinates};
 pub mod level;
 
 // The sixteen bytes of an element, and an element from sixteen bytes, bit by bit.
-pub fn bytes_stand() -> u8
+pub fn bytes_stand()
     ensures { BytesAreCoordinates }
-{
-    0
-}
+{}

@@ -7,8 +7,6 @@ ghost use Rattle.level.specs.Laws.{Arithmetic, Laws};
 ghost use Rattle.multilinear.specs.Factored.{Factored};
 
 // The entries of an equality table factor.
-pub fn tables_factor() -> u8
+pub fn tables_factor()
     ensures { (k : ℕ) (A : Arithmetic k) → Laws A → Factored A }
-{
-    0
-}
+{}

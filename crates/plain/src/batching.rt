@@ -1,4 +1,4 @@
-ghost use Rattle.std.specs.Prelude.{◌≡◌, ◌+◌, ◌*◌, ◌^◌, ◌<◌, ◌≤◌, not, map, length};
+ghost use Rattle.std.specs.Prelude.{◌≡◌, ◌+◌, ◌*◌, ◌^◌, ◌<◌, ◌≤◌, not, map, length, IfSome};
 ghost use Rattle.level.specs.Element.{plus, width};
 ghost use Rattle.multilinear.specs.Sums.{sum, where_set};
 ghost use Rattle.multilinear.specs.Equality.{equality, multilinear};
@@ -6,9 +6,9 @@ ghost use Rattle.multilinear.specs.Cells.{cell, packed};
 ghost use Rattle.ring_switch.specs.Claims.{starts, ends};
 ghost use Rattle.ring_switch.specs.Batching.{settled, closing_value};
 ghost use Rattle.ring_switch.specs.BatchingLaws.{RowsWithin};
-ghost use Rattle.plain.specs.Batches.{weights_of};
 ghost use Rattle.plain.specs.Openings.{InitialSumOf};
 ghost use Rattle.plain.specs.Steps.{steps};
+ghost use Rattle.std.proofs.Props.{props};
 
 use crate::cells::packed_element;
 use crate::points::equality_entry;
@@ -17,6 +17,7 @@ use crate::subsets::subset_sum_of;
 use crate::sums::{sum_of, value_at};
 use columns::Columns;
 use level::level::Level;
+use std::alloc::AllocError;
 
 // x where the test holds, else zero.
 #[tactic(auto, unfolding(multilinear::specs::Sums::where_set))]
@@ -38,16 +39,34 @@ fn stepped_weight<L: Level>(stepping: Stepping<L>, here: L, before: L, i: usize)
     here.add(carried).add(last)
 }
 
-// How the tensors of an opening are batched: the slot's coordinates, the batching point, and what successor tensors add. The bound on
-// their rows stands at each method, since a generic struct with a ghost field derives no `Clone`.
-#[derive(Clone, Copy)]
+// How the tensors of an opening are batched: the slot's coordinates, the batching point, and what successor tensors add.
 pub struct Batching<'a, L> {
     pub slot: &'a [L],
     pub point: &'a [L],
     pub stepping: Option<Stepping<L>>,
+    pub ghost few: { IfSome stepping (λ s. s.rows < 64) } by { Prim.hlevel props },
 }
 
+// By hand, since a generic struct with a ghost field derives no `Clone`.
+impl<L: Clone> Clone for Batching<'_, L> {
+    ghost is_clone = { λ x y. (y.slot ≡ x.slot) × ((y.point ≡ x.point) × ⟦<Option<Stepping<L>> as Clone>⟧.is_clone x.stepping y.stepping) };
+
+    ghost is_infallible = { λ x. ⟦<Option<Stepping<L>> as Clone>⟧.is_infallible x.stepping };
+
+    fn clone(&self) -> Result<Self, AllocError> {
+        Ok(Batching {
+            slot: self.slot,
+            point: self.point,
+            stepping: self.stepping.clone()?,
+        })
+    }
+}
+
+impl<L: Copy> Copy for Batching<'_, L> {}
+
 impl<'a, L: Level> Batching<'a, L> {
+    ghost use Rattle.plain.specs.Batches.{weights_of};
+
     // s(i): the sum of the batching entries of the set coordinates of entry i of the slot's equality table.
     fn settled_weight(&self, i: usize) -> L
         requires { L.Level.log ≤ 7 }
@@ -63,7 +82,6 @@ impl<'a, L: Level> Batching<'a, L> {
     // one.
     pub fn weight(&self, i: usize) -> L
         requires narrow { L.Level.log ≤ 7 }
-        requires rows { RowsWithin (steps L.means self.now.stepping) 63 }
         ensures { L.means result ≡ weights_of L.arithmetic L.means self.now i }
     {
         let here = self.settled_weight(i);
@@ -79,7 +97,6 @@ impl<'a, L: Level> Batching<'a, L> {
     // The sum over the slot of each packed element times its weight: the initial sum of the tensors of an opening with that slot.
     pub fn slot_sum(&self, bits: &[u8], slot_start: usize) -> L
         requires narrow { L.Level.log ≤ 7 }
-        requires rows { RowsWithin (steps L.means self.now.stepping) 63 }
         requires short { length self.now.slot.now < 64 }
         requires cells { (slot_start + 2 ^ length self.now.slot.now) * width L.Level.log ≤ 2 ^ 64 }
         ensures weighted { L.means result ≡ sum (2 ^ length self.now.slot.now) (λ i. L.arithmetic.times (packed L.Level.log (cell bits.now) (slot_start + i)) (weights_of L.arithmetic L.means self.now i)) }
@@ -89,7 +106,6 @@ impl<'a, L: Level> Batching<'a, L> {
             1 << self.slot.len(),
             |i| -> L
                 requires narrow { L.Level.log ≤ 7 }
-                requires rows { RowsWithin (steps L.means self.now.stepping) 63 }
                 requires within { slot_start + i < 2 ^ 64 }
                 requires cells { (slot_start + i + 1) * width L.Level.log ≤ 2 ^ 64 }
             { packed_element::<L>(bits, slot_start + i).mul(self.weight(i)) },
@@ -99,7 +115,6 @@ impl<'a, L: Level> Batching<'a, L> {
     // The closing value at a point z: the multilinear value there of the table of the slot's weights.
     pub fn closing_value(&self, z: &[L]) -> L
         requires narrow { L.Level.log ≤ 7 }
-        requires rows { RowsWithin (steps L.means self.now.stepping) 63 }
         requires short { length z.now < 64 }
         ensures value { L.means result ≡ multilinear L.arithmetic (weights_of L.arithmetic L.means self.now) (map L.means z.now) }
         ensures closing { RowsWithin (steps L.means self.now.stepping) (length self.now.slot.now) → length z.now ≡ length self.now.slot.now → L.means result ≡ closing_value L.arithmetic (equality L.arithmetic (map L.means self.now.point.now)) (map L.means self.now.slot.now) (steps L.means self.now.stepping) (map L.means z.now) }

@@ -6,7 +6,8 @@ use columns::Columns;
 use coordinates::{from_coordinates, width, with_coordinate};
 use level::level::Level;
 
-// Bit `at` of a byte.
+// Bit `at` of a byte: a number and no `bool`, since the definition `cell` is a digit and `packed_element` puts digits together.
+// `coordinates::coordinate` does the same of a `u128`, and would need a conversion each way.
 fn bit(byte: u8, at: usize) -> u8
     requires { at < 8 }
     ensures { result ≡ byte / 2 ^ at % 2 }
@@ -18,11 +19,7 @@ fn bit(byte: u8, at: usize) -> u8
 pub fn cell(bits: &[u8], c: usize) -> u8
     ensures { result ≡ cell bits.now c }
 {
-    if c / 8 < bits.len() {
-        bit(bits[c / 8], c % 8)
-    } else {
-        0
-    }
+    bits.get(c / 8).map_or(0, |byte| bit(*byte, c % 8))
 }
 
 // Packed element w of a table of bits: its coordinate v is cell w·d + v.
@@ -31,6 +28,8 @@ pub fn packed_element<L: Level>(bits: &[u8], w: usize) -> L
     ensures { L.means result ≡ packed L.Level.log (cell bits.now) w }
 {
     let d = width::<L>();
+    // A loop, since a `fold` leaves open that its closure may be called at each turn: what `with_coordinate` asks is known of the
+    // number gathered so far alone.
     let mut coordinates = 0;
     for v in 0..d {
         coordinates = with_coordinate(coordinates, v, u128::from(cell(bits, w * d + v)));

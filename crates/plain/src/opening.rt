@@ -63,7 +63,8 @@ fn leading_run<L: Level>(point: &[L]) -> Prefix
     run
 }
 
-// The leading coordinates that select the slot of an opening.
+// The leading coordinates that select the slot of an opening. The point and the view are no struct: each function bounds them in its
+// own way, and one bound for all would ask more of some.
 pub fn fixed_prefix<L: Level>(point: &[L], view: Option<usize>) -> Prefix
     requires { (L.Level.log ≤ 7) × (length point.now ≤ 64) }
     ensures count { result.count ≡ (prefix L.arithmetic (map L.means point.now) view).count }

@@ -7,7 +7,7 @@ use crate::sums::sum_of;
 use coordinates::{coordinate, coordinates, width};
 use level::level::Level;
 
-// x where coordinate u is set, else zero.
+// x where coordinate u is set, else zero: no call of `where_set`, which asks a truth value of what is read as a digit.
 #[tactic(auto, using(crate::proofs::Bits::at_bit_clear, crate::proofs::Bits::at_bit_set))]
 fn at_coordinate<L: Level>(coordinates: u128, u: usize, x: L) -> L
     requires { u < 128 }

@@ -11,6 +11,7 @@ pub(crate) fn sum_of<L: Level, F: Fn(usize) -> L>(count: usize, term: F) -> L
     requires { (i : ℕ) → i < count → F.pre term i }
     ensures { (f : ℕ → Element L.Level.log) → ((i : ℕ) (x : L) → i < count → F.post term i x → L.means x ≡ f i) → L.means result ≡ sum count f }
 {
+    // A loop, since the lemmas on `map` and `fold` ask for the term at every number, and it is known below `count` alone.
     let mut sum = L::zero();
     for i in 0..count {
         sum = sum.add(term(i));

@@ -9,7 +9,7 @@ use crate::cells::{cell, successor_cell};
 use crate::sums::value_at;
 use level::level::Level;
 
-// A bit standing for zero or one.
+// A bit standing for zero or one: a digit, as the definition reads a cell.
 #[tactic(auto, using(crate::proofs::Bits::standing_clear, crate::proofs::Bits::standing_set))]
 fn standing<L: Level>(bit: u8) -> L
     ensures { L.means result ≡ standing L.arithmetic bit }

@@ -5,8 +5,6 @@
 ghost use Rattle.polynomial.specs.Division.{Remainder};
 
 // Reduction is the remainder of a division by the modulus.
-pub fn remainder_stands() -> u8
+pub fn remainder_stands()
     ensures { Remainder }
-{
-    0
-}
+{}

@@ -1,2 +1,3 @@
 pub mod Optional
 pub mod Points
+pub mod Sizes

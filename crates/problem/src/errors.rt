@@ -1,21 +1,12 @@
-ghost use Rattle.std.specs.Prelude.{◌≡◌, IfOk, string_bytes};
-ghost use Rattle.explain_input.specs.Messages.{input_message};
-ghost use Rattle.problem.specs.Messages.{problem_message, error_line};
+ghost use Rattle.std.specs.Prelude.{◌≡◌, IfOk, IfSome, string_bytes};
+ghost use Rattle.problem.specs.Messages.{error_line};
 
-use crate::reading::ProblemFault;
-use explain_input::fault::InputFault;
 use std::alloc::{AllocError, Global};
+use std::fmt::Display;
 
-// The reply to an input that is not read.
-pub fn input_error(heap: Global, input_fault: InputFault) -> Result<String, AllocError>
-    ensures { IfOk result (λ s. string_bytes s ≡ error_line (input_message input_fault)) }
+// The reply to an input that is not read, or not at a level, by the fault's words.
+pub fn error_reply<T: Display + Copy>(heap: Global, fault: T) -> Result<String, AllocError>
+    ensures { IfSome (T.output fault) (λ message. IfOk result (λ s. string_bytes s ≡ error_line message)) }
 {
-    format!(in heap; "error: {input_fault}\n")
-}
-
-// The reply to an input that is not read at a level.
-pub fn problem_error(heap: Global, problem_fault: ProblemFault) -> Result<String, AllocError>
-    ensures { IfOk result (λ s. string_bytes s ≡ error_line (problem_message problem_fault)) }
-{
-    format!(in heap; "error: {problem_fault}\n")
+    format!(in heap; "error: {fault}\n")
 }

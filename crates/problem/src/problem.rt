@@ -1,3 +1,5 @@
+ghost use Rattle.std.specs.Prelude.{◌^◌, ◌≤◌, length};
+
 // What an input asks to be explained, its texts read at a level.
 #[derive(Drop)]
 pub struct Problem<L> {
@@ -9,4 +11,6 @@ pub struct Problem<L> {
     pub batching: Option<Vec<L>>,
     pub challenge: Option<L>,
     pub closings: Vec<Vec<L>>,
+    // At most 2^20 packed elements, of sixteen bytes at most.
+    pub ghost few: { length bits.items ≤ 2 ^ 24 },
 }

@@ -96,7 +96,8 @@ fn read_elements<L: Level>(heap: Global, key: Key, text: &[u8]) -> Result<Vec<L>
     parse_elements(heap, text).map_err(|fault| ProblemFault::Elements { key, fault })
 }
 
-// The batching point, where there is one.
+// The batching point, where there is one. A match, here and for the challenge: with `map(..).transpose()` the answer of the call on the text
+// is known at `Some` alone, and `returns` stays open.
 fn read_batching<L: Level>(
     heap: Global,
     text: Option<&[u8]>,
@@ -113,11 +114,11 @@ fn read_batching<L: Level>(
 fn read_element<L: Level>(heap: Global, text: &[u8]) -> Result<L, ProblemFault>
     ensures { MatchResult result (λ x. ElementsOf text.now (L.means x ∷ [])) (BadText L.Level.log named.Challenge text.now) }
 {
-    let elements = read_elements::<L>(heap, Key::Challenge, text)?;
-    if elements.len() != 1 {
-        return Err(ProblemFault::Challenge);
+    let elements = read_elements(heap, Key::Challenge, text)?;
+    match elements.as_slice() {
+        [x] => Ok(*x),
+        _ => Err(ProblemFault::Challenge),
     }
-    Ok(elements[0])
 }
 
 // The challenge, where there is one.

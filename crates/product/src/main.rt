@@ -10,7 +10,7 @@ fn main(rt: HostRuntime) -> io::Result<()> {
     let heap = rt.alloc();
     let mut input = BufReader::new(heap, rt.stdin())?;
     let mut line = Vec::new(heap);
-    // One buffer for all lines, where `split` would allocate each line anew.
+    // A count, since nothing promises that a reader ends. No `split`: it takes the newline off itself, where `without_newline` is proved to.
     for _ in 0..u64::MAX {
         line.clear();
         if input.read_until(b'\n', &mut line)? == 0 {

@@ -3,8 +3,7 @@ ghost use Rattle.product_line.specs.Letters.{Answer, BadLine, Reply, fault_text,
 
 use crate::line::{LineFault, product};
 use byte_levels::polynomial_byte::PolynomialByte;
-use byte_levels::tower::TowerByte;
-use doubling::doubling::Doubling;
+use byte_levels::tower::{Tower16, Tower32, Tower64, TowerByte};
 use level_name::LevelName;
 use std::alloc::{AllocError, Global};
 
@@ -15,17 +14,18 @@ pub fn product_line(heap: Global, line: &[u8]) -> Result<String, LineFault>
     let [letter, rest @ ..] = line else {
         return Err(LineFault::Letter);
     };
-    let name = LevelName::try_from(char::from(*letter))?;
-    match name {
+    // A match of its own, like that of `replies`: one function for both would need a trait with a generic method, a ghost member for what it
+    // answers at a level, and an impl for each, which is longer than the five lines.
+    match LevelName::try_from(char::from(*letter))? {
         LevelName::TowerByte => product::<TowerByte>(heap, rest),
-        LevelName::Tower16 => product::<Doubling<TowerByte>>(heap, rest),
-        LevelName::Tower32 => product::<Doubling<Doubling<TowerByte>>>(heap, rest),
-        LevelName::Tower64 => product::<Doubling<Doubling<Doubling<TowerByte>>>>(heap, rest),
+        LevelName::Tower16 => product::<Tower16>(heap, rest),
+        LevelName::Tower32 => product::<Tower32>(heap, rest),
+        LevelName::Tower64 => product::<Tower64>(heap, rest),
         LevelName::PolynomialByte => product::<PolynomialByte>(heap, rest),
     }
 }
 
-// The words for a refusal.
+// The words for a refusal. The line of `problem::errors` ends in a newline: one function for both would be told whether to write it.
 pub fn fault_text(heap: Global, fault: LineFault) -> Result<String, AllocError>
     ensures { IfOk result (λ s. string_bytes s ≡ codes "error: " ++ fault_text fault) }
 {
@@ -36,10 +36,7 @@ pub fn fault_text(heap: Global, fault: LineFault) -> Result<String, AllocError>
 pub fn reply(heap: Global, line: &[u8]) -> Result<String, AllocError>
     ensures { IfOk result (λ s. Reply line.now (string_bytes s)) }
 {
-    match product_line(heap, line) {
-        Ok(answer) => Ok(answer),
-        Err(fault) => fault_text(heap, fault),
-    }
+    product_line(heap, line).or_else(|fault| fault_text(heap, fault))
 }
 
 // A line without the newline that ended it.

@@ -74,17 +74,15 @@ fn place(from: usize, at: usize) -> usize
     from + at + 2
 }
 
-// The element whose text stands at `from` in what follows the letter.
+// The element whose text stands at `from` in what follows the letter. The whole text and a place, since a fault is told by its place in the
+// line.
 fn operand<L: Level>(rest: &[u8], from: usize, digits: usize) -> Result<L, LineFault>
     requires { (digits ≡ 2 * byte_count L.Level.log) × ((from + digits ≤ length rest.now) × (length rest.now ≤ 66)) }
     ensures { MatchResult result (λ x. Writes (take digits (drop from rest.now)) (L.means x)) (BadOperand rest.now) }
 {
-    match parse_digits(&rest[from..from + digits]) {
-        Ok(x) => Ok(x),
-        Err(fault) => Err(LineFault::Digit {
-            place: place(from, fault.at),
-        }),
-    }
+    parse_digits(&rest[from..from + digits]).map_err(|fault| LineFault::Digit {
+        place: place(from, fault.at),
+    })
 }
 
 // Whether what follows the letter is a space and as many digits, twice.

@@ -1,5 +1,5 @@
 -- A term that is being added to the buckets, byte by byte.
-use Rattle.std.proofs.Common.{◌≡◌, ℕ, ◌+◌, ◌*◌, ◌^◌, ◌<◌, ◌≤◌, eqb, List, length, get_or, set, take, sym, refl, ap, ◌∙◌, ap₂, ⊎_elim, add-one, arith, length-take-le, get_or-take, pow_mono, below_more}
+use Rattle.std.proofs.Common.{◌≡◌, ℕ, ◌+◌, ◌*◌, ◌^◌, ◌<◌, ◌≤◌, eqb, List, length, get_or, set, take, sym, ap, ◌∙◌, ap₂, ⊎_elim, add-one, arith, length-take-le, get_or-take, pow_mono, below_more}
 use Rattle.std.proofs.lemmas.List.{length-take}
 use Rattle.std.proofs.lemmas.Bool.{cases_eq, eq-eqb, ne_eqb}
 use Rattle.level.specs.Element.{Element, plus}
@@ -10,6 +10,7 @@ use Rattle.multilinear.specs.Lent.{lent}
 use Rattle.multilinear.specs.Sums.{sum, where_set}
 use Rattle.multilinear.proofs.Lent.{lent_read, lent_written, lent_kept}
 use Rattle.tensor_algebra.specs.Subsets.{byte}
+use Rattle.tensor_algebra.specs.Tensor.{nothing}
 use Rattle.tensor_algebra.specs.Buckets.{bucket}
 use Rattle.tensor_algebra.proofs.Kept.{where_in, where_out}
 use Rattle.products.specs.Buckets.{bytes, Empty, Added, Bucketed}
@@ -24,9 +25,6 @@ pub record Adding {k : ℕ} (values : List ℕ) (b : Element k) (done : ℕ) (be
   pub left : (i : ℕ) → 256 * done ≤ i → after i ≡ before i
 
 module _ {k : ℕ} (values : List ℕ) (b : Element k) where
-  pub adding_begins : (before : ℕ → Element k) → Adding values b 0 before before
-  adding_begins before = record { added = λ j h. absurd (omega arith); left = λ i h. refl }
-
   -- one byte more
   pub adding_more : {X : Type 0} (means : X → Element k) (done : ℕ) (before : ℕ → Element k) (xs : List X) (at : ℕ) (t x : X)
       → get_or values done 0 < 256 → at ≡ 256 * done + get_or values done 0 → at < length xs → t ≡ get_or xs at t → means x ≡ plus (means t) b
@@ -67,6 +65,11 @@ adding_ends {k} a b all done n before after narrow shown e h w j s l g =
     let size = length-take-le n all (omega (arith, ap length shown, bytes_are_coordinates.shown_length a)) in
     let value : get_or (take n all) j 0 ≡ byte a j = get_or-take n all j 0 inside ∙ ap (λ vs. get_or vs j 0) shown ∙ byte_shown a j (omega arith) in
     w.added j (omega (arith, size)) s g ∙ ap (λ v. plus (before (256 * j + s)) (where_set (eqb v s) b)) value
+
+-- buckets that were cleared
+pub cleared_empty : {k : ℕ} (held : ℕ → Element k) → held ≡ nothing → Empty held
+unfolding nothing
+cleared_empty held e i = ap (λ f. f i) e
 
 module _ {k : ℕ} (a b : ℕ → Element k) where
   -- no terms

@@ -1,11 +1,10 @@
 -- Buckets of which the upper half is being added into the lower.
-use Rattle.std.proofs.Common.{◌≡◌, ℕ, ◌+◌, ◌-◌, ◌<◌, ◌≤◌, List, ◌++◌, map, length, get_or, set, sym, refl, ap, ◌∙◌, ap₂, add-one, arith, below_more}
-use lib.ListN.{length-map}
-use Rattle.std.proofs.lemmas.List.{get_or_append_left, get_or-append_right, get_or-map, map-append}
+use Rattle.std.proofs.Common.{◌≡◌, ℕ, ◌+◌, ◌-◌, ◌<◌, ◌≤◌, List, ◌++◌, length, get_or, set, sym, refl, ap, ◌∙◌, ap₂, add-one, arith, below_more}
+use Rattle.std.proofs.lemmas.List.{get_or-map}
 use Rattle.level.specs.Element.{Element, plus, zeros}
 use Rattle.multilinear.specs.Lent.{lent}
 use Rattle.multilinear.specs.Sums.{sum}
-use Rattle.multilinear.proofs.Lent.{lent_read, lent_written, lent_kept}
+use Rattle.multilinear.proofs.Lent.{lent_read, lent_written, lent_kept, lent_front, lent_back}
 use Rattle.multilinear.proofs.Sums.{sum_same}
 use Rattle.products.specs.Halves.{Halved}
 
@@ -16,17 +15,6 @@ pub record Halving {k : ℕ} (done : ℕ) (upper lower_before lower : ℕ → El
   pub summed : total ≡ sum done upper
 
 module _ {X : Type 0} {k : ℕ} (means : X → Element k) where
-  -- two halves joined
-  lent_front : (xs ys : List X) (i : ℕ) → i < length xs → lent means (xs ++ ys) i ≡ lent means xs i
-  lent_front xs ys i h =
-      ap (λ zs. get_or zs i (zeros k)) (map-append means xs ys)
-      ∙ get_or_append_left (map means xs) (map means ys) (zeros k) i (omega (arith, length-map xs means))
-
-  lent_back : (xs ys : List X) (n i : ℕ) → length xs ≡ n → n ≤ i → lent means (xs ++ ys) i ≡ lent means ys (i - n)
-  lent_back xs ys n i size h =
-      ap (λ zs. get_or zs i (zeros k)) (map-append means xs ys)
-      ∙ get_or-append_right (map means xs) (map means ys) n i (zeros k) (length-map xs means ∙ size) h
-
   pub halving_begins : (upper lower : ℕ → Element k) (total : Element k) → total ≡ zeros k → Halving 0 upper lower lower total
   unfolding sum
   halving_begins upper lower total e = record { added = λ s h. absurd (omega arith); kept = λ s h. refl; summed = e }
@@ -53,7 +41,7 @@ module _ {X : Type 0} {k : ℕ} (means : X → Element k) where
       (size_before : length lowers_before ≡ half) (size : length lowers ≡ half) (all : done ≡ half)
       (w : Halving done (lent means uppers) (lent means lowers_before) (lent means lowers) total) where
     upper_is : (i : ℕ) → half ≤ i → lent means uppers (i - half) ≡ lent means before i
-    upper_is i h = sym (ap (λ xs. lent means xs i) parts ∙ lent_back lowers_before uppers half i size_before h)
+    upper_is i h = sym (ap (λ xs. lent means xs i) parts ∙ lent_back means lowers_before uppers half i size_before h)
 
     pub halving_sum : total ≡ sum half (λ s. lent means before (half + s))
     halving_sum =
@@ -66,8 +54,8 @@ module _ {X : Type 0} {k : ℕ} (means : X → Element k) where
     halving_ends = record {
       lower = λ s h.
           let place : half + s - half ≡ s = omega arith in
-          lent_front lowers uppers s (omega arith) ∙ w.added s (omega arith)
-          ∙ ap₂ plus (sym (ap (λ xs. lent means xs s) parts ∙ lent_front lowers_before uppers s (omega arith)))
+          lent_front means lowers uppers s (omega arith) ∙ w.added s (omega arith)
+          ∙ ap₂ plus (sym (ap (λ xs. lent means xs s) parts ∙ lent_front means lowers_before uppers s (omega arith)))
           (ap (lent means uppers) (sym place) ∙ upper_is (half + s) (omega arith));
-      kept = λ i h. lent_back lowers uppers half i size h ∙ upper_is i h;
+      kept = λ i h. lent_back means lowers uppers half i size h ∙ upper_is i h;
     }

@@ -1,4 +1,3 @@
-pub mod Filling
 pub mod Adding
 pub mod Halving
 pub mod RowsByHalves

@@ -6,7 +6,7 @@ use Rattle.multilinear.specs.Lent.{lent}
 use Rattle.multilinear.specs.Sums.{sum}
 use Rattle.multilinear.proofs.Lent.{lent_written, lent_kept}
 use Rattle.multilinear.proofs.Sums.{sum_same}
-use Rattle.products.specs.Halves.{Halved, halvings, with_bit, ByteRead}
+use Rattle.products.specs.Halves.{Halved, halvings, with_bit}
 use Rattle.products.proofs.RowsByHalves.{at_most, highest_row}
 
 -- the rows of the bits from `left` on are read out, after as many halvings
@@ -62,12 +62,4 @@ module _ {k : ℕ} (before : ℕ → Element k) where
             ∙ row_is n half before after halved small size' step w.buckets ∙ ap (λ a. with_bit a before) (sym p ∙ sym b-is))
             (cases_lt i b);
         buckets = λ s g. halved_once n half before after halved small size' step w.buckets s g ∙ ap (λ a. halvings a before s) q;
-      }
-
-  pub reading_ends : (left : ℕ) (after rows_after : ℕ → Element k) → left ≤ 0 → Reading left before after rows_after → ByteRead before after rows_after
-  reading_ends left after rows_after h w =
-      let e : 8 - left ≡ 8 = omega arith in
-      record {
-        rows = λ i l. w.rows i (omega arith) l;
-        buckets = λ s l. w.buckets s l ∙ ap (λ n. halvings n before s) e;
       }

@@ -1,5 +1,5 @@
 -- The rows of an element's bytes that are being read out, byte by byte, and what they are.
-use Rattle.std.proofs.Common.{◌≡◌, ℕ, ◌+◌, ◌*◌, ◌/◌, ◌%◌, ◌^◌, ◌<◌, ◌≤◌, List, length, take, drop, sym, refl, ap, ◌∙◌, ⊎_elim, arith, below_more}
+use Rattle.std.proofs.Common.{◌≡◌, ℕ, ◌+◌, ◌*◌, ◌/◌, ◌%◌, ◌^◌, ◌<◌, ◌≤◌, List, length, take, drop, sym, ap, ◌∙◌, ⊎_elim, arith, below_more}
 use borrow.Rule.Slice.PartMut.{put_mid}
 use Rattle.std.proofs.lemmas.Bool.{cases_lt}
 use Rattle.level.specs.Element.{Element, width}
@@ -12,8 +12,8 @@ use Rattle.tensor_algebra.proofs.SubsetSums.{eights}
 use Rattle.tensor_algebra.proofs.BucketSums.{row_from_buckets}
 use Rattle.products.specs.Buckets.{bytes, Bucketed, Summed}
 use Rattle.products.specs.Halves.{halvings, of_byte, with_bit, ByteRead}
-use Rattle.tensor_rows.proofs.Places.{before_part, in_part, past_part, of_part}
-use Rattle.products.proofs.Filling.{lent_past}
+use Rattle.multilinear.proofs.Places.{before_part, in_part, past_part, of_part}
+use Rattle.multilinear.proofs.Lent.{lent_past}
 use Rattle.products.proofs.RowsByHalves.{halvings_same}
 
 -- the rows of the bytes below n are read out
@@ -23,9 +23,6 @@ pub record BytesRead {k : ℕ} (n : ℕ) (before after rows_after : ℕ → Elem
   pub left : (i : ℕ) → 256 * n ≤ i → after i ≡ before i
 
 module _ {k : ℕ} (before : ℕ → Element k) where
-  pub bytes_begin : (rows : ℕ → Element k) → BytesRead 0 before before rows
-  bytes_begin rows = record { rows = λ j i h. absurd (omega arith); buckets = λ j s h. absurd (omega arith); left = λ i h. refl }
-
   -- one byte more, read out of its part of the buckets into its part of the rows
   pub bytes_more : {X : Type 0} (means : X → Element k) (n : ℕ) (now chunk ys rows_chunk : List X) (wide narrow : ℕ) → wide ≡ 256 → narrow ≡ 8 → 256 * n + 256 ≤ length now → 8 * n + 8 ≤ length ys
       → length chunk ≡ 256 → length rows_chunk ≡ 8

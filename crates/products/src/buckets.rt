@@ -4,14 +4,17 @@ ghost use Rattle.multilinear.specs.Lent.{lent};
 ghost use Rattle.products.specs.Buckets.{bytes, Empty, Added, Bucketed, Summed};
 ghost use Rattle.products.specs.Halves.{of_byte, AllHalved};
 
-use crate::gathering::{add_term, empty_all};
+use crate::gathering::add_term;
 use crate::reading::read_rows;
 use level::level::Level;
+use tensor_rows::rows::clear;
 
 // A sum of exterior products, one bucket for each value of each byte of the left factors.
 //
 // Row u of a sum of a(w) ⊗ b(w) takes b(w) for each w with coordinate u of a(w) set: half of the rows on average. Gathered by whole
 // bytes, a term is added once for each byte, and a row is the sum of the buckets whose value has its bit set.
+//
+// The methods name the functions over slices, which `LeftFactors` calls on a part of its scratch.
 #[derive(Drop)]
 pub struct BitTensorBuckets<'a, L> {
     // 256 buckets for each byte, those of byte j from 256·j on
@@ -33,7 +36,7 @@ impl<'a, L: Level> BitTensorBuckets<'a, L> {
         ensures empty { Empty (lent L.means self.new.buckets.now) }
         ensures bucketed { (a b : ℕ → Element L.Level.log) → Bucketed a b 0 (lent L.means self.new.buckets.now) }
     {
-        empty_all(self.buckets);
+        clear(self.buckets);
     }
 
     // Adds a ⊗ b: one addition for each byte.

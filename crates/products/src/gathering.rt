@@ -6,16 +6,6 @@ ghost use Rattle.products.specs.Buckets.{bytes, Empty, Added, Bucketed};
 use coordinates::whole_bytes;
 use level::level::Level;
 
-// Empties every bucket.
-pub(crate) fn empty_all<L: Level>(buckets: &mut [L])
-    ensures { Empty (lent L.means buckets.new) }
-{
-    // A loop, since `fill` asks for a clone that cannot fail, which a level does not promise.
-    for bucket in buckets.iter_mut() {
-        *bucket = L::zero();
-    }
-}
-
 // The place of the bucket for a value of byte j.
 fn place(j: usize, value: u8) -> usize
     requires { j < 16 }
@@ -31,6 +21,8 @@ pub(crate) fn add_term<L: Level>(buckets: &mut [L], a: L, b: L)
     ensures { Added (L.means a) (L.means b) (lent L.means buckets.old) (lent L.means buckets.new) }
 {
     let values = a.to_bytes();
+
+    // A place of the buckets for each byte, since of what is written through `chunks_exact_mut` a proof knows only the length.
     for (j, value) in values[..whole_bytes::<L>()].iter().enumerate() {
         let at = place(j, *value);
         buckets[at] = buckets[at].add(b);

@@ -9,7 +9,8 @@ ghost use Rattle.products.specs.Halves.{Halved, of_byte, ByteRead, AllHalved};
 use coordinates::whole_bytes;
 use level::level::Level;
 
-// Adds the upper of two halves of `half` buckets into the lower, and returns the sum of the upper.
+// Adds the upper of two halves of `half` buckets into the lower, and returns the sum of the upper. The number stands beside the buckets, of
+// which fewer are read each time: cut to its part, a slice would say the number in the call as well.
 fn halve<L: Level>(buckets: &mut [L], half: usize) -> L
     requires { half + half ≤ length buckets.old }
     ensures upper { L.means result ≡ sum half (λ s. lent L.means buckets.old (half + s)) }

@@ -24,6 +24,7 @@ pub fn shifted<L: Level>(inner: &[L], columns: Columns, out: &mut [L])
     requires { length out.old ≡ length inner.now }
     ensures { (j : ℕ) → j < length inner.now → lent L.means out.new j ≡ where_set (not (starts columns.row_variables j)) (lent L.means inner.now (j - 1)) }
 {
+    // By places, since the place says whether a column starts there.
     for (j, entry) in out.iter_mut().enumerate() {
         *entry = entry_before(inner, columns, j);
     }

@@ -2,7 +2,8 @@
 use Rattle.std.proofs.Common.{◌≡◌, ℕ, ◌-◌, ◌<◌, ◌≤◌, Bool, true, false, cond, not, ◌&&◌, eqb, ltb, is_some, Some, None, vec_items, Option, sym, refl, ap, ◌∙◌, ap₂, arith}
 use Rattle.std.proofs.lemmas.Bool.{ltb-true, eqb-true}
 use Rattle.level.specs.Element.{Element}
-use Rattle.level.specs.Laws.{Arithmetic, Laws}
+use Rattle.level.specs.Laws.{Arithmetic}
+use Rattle.level.specs.declared.level.Level.{Ghosts}
 use Rattle.multilinear.specs.Equality.{Point, equality}
 use Rattle.multilinear.specs.Lent.{lent}
 use Rattle.tensor_algebra.specs.Tensor.{Tensor}
@@ -11,6 +12,7 @@ use Rattle.ring_switch.specs.Batching.{Stepping, initial_sum}
 use Rattle.ring_switch.specs.ClaimLaws.{opened, opened_carry, opened_last}
 use Rattle.refusals.specs.Steps.{told}
 use Rattle.plain.specs.Openings.{named}
+use Rattle.reduction.specs.Successors.{carry_rows, last_rows}
 use Rattle.reduction.specs.Worked.{Worked}
 use Rattle.reduction.specs.declared.work.OpenedTable.{OpenedTable}
 use Rattle.report_lines.specs.Batched.{stepped, batch_refusal, Batching, slot_batching}
@@ -42,18 +44,20 @@ sent {k} A f (Some q) α t c l u d m e g h = at (ltb k q) refl α
         let s : Option (Stepping k) = Some (record { rows = q - k; challenge = β }) in
         ap (λ x. initial_sum A f s x c l) e ∙ ap₂ (λ x y. initial_sum A f s u x y) (g q refl longer) (h q refl longer)
 
-module _ {X : Type 0} {k : ℕ} (means : X → Element k) {A : Arithmetic k} (laws : Laws A) (p : Point k) (view : View) (bits : ℕ → ℕ) (w : OpenedTable X) (worked : Worked means A p view bits w) where
-  named_carry : (q : ℕ) → view ≡ Some q → k < q → lent means (vec_items w.carry) ≡ opened_carry A p (named view) bits
-  named_carry q e h = worked.carry_is q e h ∙ ap (λ (v : View). opened_carry A p (named v) bits) (sym e)
+module _ {X : Type 0} (L : Ghosts X) (p : Point L.log) (view : View) (bits : ℕ → ℕ) (w : OpenedTable X L) (worked : Worked L p view bits w) where
+  named_carry : (q : ℕ) → view ≡ Some q → L.log < q → carry_rows L w.successor ≡ opened_carry L.arithmetic p (named view) bits
+  named_carry q e h = worked.carry_is q e h ∙ ap (λ (v : View). opened_carry L.arithmetic p (named v) bits) (sym e)
 
-  named_last : (q : ℕ) → view ≡ Some q → k < q → lent means (vec_items w.last) ≡ opened_last A p (named view) bits
-  named_last q e h = worked.last_is q e h ∙ ap (λ (v : View). opened_last A p (named v) bits) (sym e)
+  named_last : (q : ℕ) → view ≡ Some q → L.log < q → last_rows L w.successor ≡ opened_last L.arithmetic p (named view) bits
+  named_last q e h = worked.last_is q e h ∙ ap (λ (v : View). opened_last L.arithmetic p (named v) bits) (sym e)
 
-  pub batched : (b : Point k) (α : Option (Element k)) (slot : Point k) (s : Option (Stepping k)) (x : Element k) → slot ≡ rest A p view → s ≡ stepped (kept k view) α
-      → x ≡ initial_sum A (equality A b) s (lent means (vec_items w.tensor)) (lent means (vec_items w.carry)) (lent means (vec_items w.last))
-      → ◌≡◌ {A = Batching k} (record { slot = slot; batching = b; stepping = s; initial = x }) (slot_batching A bits p view b α)
+  pub batched : (b : Point L.log) (α : Option (Element L.log)) (slot : Point L.log) (s : Option (Stepping L.log)) (x : Element L.log)
+      → slot ≡ rest L.arithmetic p view → s ≡ stepped (kept L.log view) α
+      → x ≡ initial_sum L.arithmetic (equality L.arithmetic b) s (lent L.means (vec_items w.tensor.elements)) (carry_rows L w.successor) (last_rows L w.successor)
+      → ◌≡◌ {A = Batching L.log} (record { slot = slot; batching = b; stepping = s; initial = x }) (slot_batching L.arithmetic bits p view b α)
   batched b α slot s x c e sum =
-      let t = lent means (vec_items w.tensor) in
-      let initial = sum ∙ ap (λ (o : Option (Stepping k)). initial_sum A (equality A b) o t (lent means (vec_items w.carry)) (lent means (vec_items w.last))) e
-      ∙ sent A (equality A b) view α t (lent means (vec_items w.carry)) (lent means (vec_items w.last)) (opened A p bits) (opened_carry A p (named view) bits) (opened_last A p (named view) bits) worked.tensor_is named_carry named_last in
+      let A = L.arithmetic in
+      let t = lent L.means (vec_items w.tensor.elements) in
+      let initial = sum ∙ ap (λ (o : Option (Stepping L.log)). initial_sum A (equality A b) o t (carry_rows L w.successor) (last_rows L w.successor)) e
+      ∙ sent A (equality A b) view α t (carry_rows L w.successor) (last_rows L w.successor) (opened A p bits) (opened_carry A p (named view) bits) (opened_last A p (named view) bits) worked.tensor_is named_carry named_last in
       λ i. record { slot = c i; batching = b; stepping = e i; initial = initial i }

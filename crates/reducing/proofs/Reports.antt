@@ -2,6 +2,7 @@
 use Rattle.std.proofs.Common.{◌≡◌, ℕ, ◌+◌, ◌-◌, ◌*◌, ◌/◌, ◌^◌, ◌<◌, ◌≤◌, min, eqb, ltb, List, ◌++◌, length, Some, None, Option, ap, ◌∙◌, subst, ap₂, mul-div_cancel, arith, lit<, pow_pos, pow-add}
 use lib.Pow.{pow-lt}
 use Rattle.std.proofs.lemmas.List.{append_assoc}
+use Rattle.std.proofs.lemmas.Nat.{shl-shr}
 use Rattle.std.proofs.lemmas.Bool.{ltb-false, eqb-true}
 use Rattle.level.specs.Element.{Element}
 use Rattle.level.specs.Laws.{Arithmetic, Laws}
@@ -15,8 +16,10 @@ use Rattle.multilinear.specs.Cells.{cell}
 use Rattle.problem.specs.Task.{Task}
 use Rattle.refusals.specs.Refusals.{Refusal}
 use Rattle.refusals.specs.Steps.{told, stride, opening, width}
+use Rattle.report_lines.specs.Packing.{Packs}
 use Rattle.report_lines.specs.Opened.{Values, open_refusal, values_at}
 use Rattle.report_lines.specs.Report.{unless, variables_of, opening_text, batched_text, opened_text}
+use Rattle.report_lines.proofs.Packed.{Cells, packs}
 use Rattle.report_lines.proofs.Passed.{passed, both_passed, met}
 use Rattle.reducing.specs.Texts.{values_text}
 
@@ -63,3 +66,12 @@ stride_is k wide narrow =
 -- an opening that is not refused has a variable for each kept coordinate
 pub matched_width : (k v n : ℕ) (view : Option ℕ) → None ≡ open_refusal k v n view → v ≡ n - k
 matched_width k v n view e = eqb-true v (n - k) (met (eqb v (n - k)) _ (both_passed (opening (told k) n view) (width (n - k) v) e).1)
+
+-- how many packed elements bytes are
+pub packed_count : (k n v : ℕ) → 3 ≤ k → Packs k n v → n / stride k ≡ 2 ^ v
+packed_count k n v wide p =
+    ap (λ m. n / m) (stride_is k wide p.narrow) ∙ ap (λ i. i / byte_count k) p.bytes ∙ shl-shr (2 ^ v) (min k 7 - 3)
+
+-- the log of how many there are is that of their packing
+pub log_packs : (k n m v : ℕ) (c : Cells k n) → m ≡ n / stride k → 2 ^ v ≤ m → m < 2 * 2 ^ v → Packs k n v
+log_packs k n m v c e = packs k n c m v (e ∙ ap (λ s. n / s) (stride_is k c.wide c.narrow))

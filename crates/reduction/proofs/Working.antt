@@ -6,10 +6,9 @@ use Rattle.std.proofs.lemmas.Bool.Decides.{nat_tests}
 use Rattle.level.specs.Element.{Element}
 use Rattle.level.specs.Laws.{Arithmetic, Laws}
 use Rattle.multilinear.specs.Cells.{packed}
-use Rattle.multilinear.specs.Equality.{Point, inner}
+use Rattle.multilinear.specs.Equality.{inner}
 use Rattle.multilinear.specs.Lent.{lent}
 use Rattle.ring_switch.specs.Opening.{View, kept, low, rest, slot_start}
-use Rattle.ring_switch.proofs.SlotPrefix.{low_length}
 use Rattle.ring_switch.proofs.SlotTensors.{slot, stepped_slot}
 use Rattle.ring_switch.proofs.ColumnsBounds.{pow_mod}
 use Rattle.plain.specs.Openings.{named}
@@ -46,9 +45,6 @@ module _ {X : Type 0} {k : ℕ} (means : X → Element k) {A : Arithmetic k} (la
       let e : length os * length is ≡ length outers * length inners = ap (λ (xs : List X). length xs * length is) o ∙ ap (λ (xs : List X). length outers * length xs) i in
       omega (arith, s, w, e, begins, size, ap (λ m. 2 ^ (m - k)) (length-map point means))
 
-  pub filled_inner : (is : List X) → is ≡ inners → 0 < length is
-  filled_inner is i = omega (arith, ap length i, factors.inner_table.size, pow_pos (length (inner (map means coordinates))))
-
   -- and has whole columns
   pub columns_whole : (os is : List X) (r : Option ℕ) → os ≡ outers → is ≡ inners → r ≡ kept k view → named view ≤ length point → length point < 64
       → WholeColumns r (length os * length is)
@@ -78,9 +74,6 @@ module _ {X : Type 0} {k : ℕ} (means : X → Element k) {A : Arithmetic k} (la
 pub low_map : {X : Type 0} {k : ℕ} (means : X → Element k) (point : List X) (n : ℕ) → n ≡ length point - k → map means (drop n point) ≡ low (map means point)
 low_map {k = k} means point n e =
     sym (drop-map means n point) ∙ ap (λ i. drop i (map means point)) (e ∙ ap (λ l. l - k) (sym (length-map point means)))
-
-pub low_count : {k : ℕ} (p : Point k) (n : ℕ) → k ≤ length p → n ≡ 2 ^ length (low p) → n ≡ 2 ^ k
-low_count p n h e = e ∙ ap (λ i. 2 ^ i) (low_length p h)
 
 -- the equality table of a batching point has an entry for each coordinate of an element
 pub batch_count : {X : Type 0} {k : ℕ} (means : X → Element k) (A : Arithmetic k) (batching es : List X) → length batching ≡ k

@@ -1,17 +1,18 @@
 ghost use Rattle.std.specs.Prelude.{◌≡◌, ℕ, ◌-◌, ◌<◌, ◌≤◌, map, length, drop, IfOk, Some};
 ghost use Rattle.multilinear.specs.Cells.{standing, one_row_on};
 ghost use Rattle.multilinear.specs.Equality.{Point, multilinear};
-ghost use Rattle.ring_switch.specs.ClaimLaws.{Binary};
+ghost use Rattle.multilinear.specs.Lent.{lent};
+ghost use Rattle.ring_switch.specs.ClaimLaws.{Binary, opened};
 ghost use Rattle.ring_switch.specs.Opening.{View, low};
 ghost use Rattle.equality.specs.Tables.{Tabulated};
-ghost use Rattle.level.specs.Element.{width};
 ghost use Rattle.reduction.specs.Worked.{Worked};
 
-use crate::memory::zeroes;
-use crate::tables::equality_of;
+use crate::per_coordinate::OwnedPerCoordinate;
+use crate::tables::absorbed_equality;
 use crate::work::OpenedTable;
 use claims::incoming::incoming_claim;
 use claims::successor::successor_claim;
+use coordinates::per_coordinate::PerCoordinate;
 use coordinates::width;
 use level::level::Level;
 use std::alloc::{AllocError, Global};
@@ -26,57 +27,50 @@ fn low_of<L: Level>(point: &[L]) -> &[L]
 }
 
 // The equality table of the coordinates that one packed element absorbs.
-pub fn low_equality<L: Level>(heap: Global, point: &[L]) -> Result<Vec<L>, AllocError>
+pub fn low_equality<L: Level>(
+    heap: Global,
+    point: &[L],
+) -> Result<OwnedPerCoordinate<L>, AllocError>
     requires { (L.Level.log ≤ 7) × (L.Level.log ≤ length point.now) }
-    ensures table { IfOk result (λ v. Tabulated L.means L.arithmetic L.arithmetic.unit (low (map L.means point.now)) v.items) }
-    ensures count { IfOk result (λ v. length v.items ≡ width L.Level.log) }
+    ensures { IfOk result (λ t. Tabulated L.means L.arithmetic L.arithmetic.unit (low (map L.means point.now)) t.elements.items) }
 {
-    equality_of(heap, low_of(point))
+    absorbed_equality(heap, low_of(point))
 }
 
-// The incoming claim of an opened table: the multilinear value of its bits at the point.
+// The incoming claim of the tensor of an opened table: the multilinear value of the table's bits at the point.
 pub fn incoming<L: Level>(
     heap: Global,
-    opened: &OpenedTable<L>,
-    eq_low: &[L],
+    tensor: PerCoordinate<'_, L>,
+    eq_low: PerCoordinate<'_, L>,
 ) -> Result<L, AllocError>
-    requires narrow { L.Level.log ≤ 7 }
-    requires tensor { length opened.now.tensor.items ≡ width L.Level.log }
-    requires eq_low { length eq_low.now ≡ width L.Level.log }
-    ensures { IfOk result (λ x. (p : Point L.Level.log) (view : View) (bits : ℕ → ℕ) → Binary bits → L.Level.log ≤ length p → Tabulated L.means L.arithmetic L.arithmetic.unit (low p) eq_low.now → Worked L.means L.arithmetic p view bits opened.now → L.means x ≡ multilinear L.arithmetic (λ c. standing L.arithmetic (bits c)) p) }
+    requires { L.Level.log ≤ 7 }
+    ensures { IfOk result (λ x. (p : Point L.Level.log) (bits : ℕ → ℕ) → Binary bits → L.Level.log ≤ length p → Tabulated L.means L.arithmetic L.arithmetic.unit (low p) eq_low.entry.elements.now → lent L.means tensor.entry.elements.now ≡ opened L.arithmetic p bits → L.means x ≡ multilinear L.arithmetic (λ c. standing L.arithmetic (bits c)) p) }
 {
-    let mut columns = zeroes(heap, width::<L>())?;
-    Ok(incoming_claim(opened.tensor.as_slice(), eq_low, columns.as_mut_slice()))
+    let mut columns = vec![in heap; L::zero(); width::<L>()]?;
+    Ok(incoming_claim(tensor, eq_low, columns.as_mut_slice()))
 }
 
-// The successor claim of an opened table under a view that names q row variables: the multilinear value at the point of its bits one
-// row on, last rows repeated.
-pub fn successor<L: Level>(
-    heap: Global,
-    opened: &OpenedTable<L>,
-    eq_low: &[L],
-    q: usize,
-) -> Result<L, AllocError>
-    requires narrow { L.Level.log ≤ 7 }
-    requires tensor { length opened.now.tensor.items ≡ width L.Level.log }
-    requires carry { length opened.now.carry.items ≡ width L.Level.log }
-    requires last { length opened.now.last.items ≡ width L.Level.log }
-    requires eq_low { length eq_low.now ≡ width L.Level.log }
-    ensures { IfOk result (λ x. (p : Point L.Level.log) (bits : ℕ → ℕ) → Binary bits → L.Level.log ≤ length p → q ≤ length p → Tabulated L.means L.arithmetic L.arithmetic.unit (low p) eq_low.now → Worked L.means L.arithmetic p (Some q) bits opened.now → L.means x ≡ multilinear L.arithmetic (λ c. standing L.arithmetic (one_row_on q bits c)) p) }
-{
-    let mut columns = zeroes(heap, width::<L>())?;
-    let mut weights = zeroes(heap, width::<L>())?;
-    let tensor = opened.tensor.as_slice();
-    let carry = opened.carry.as_slice();
-    let last = opened.last.as_slice();
-    let columns = columns.as_mut_slice();
-    Ok(successor_claim(
-        tensor,
-        carry,
-        last,
-        eq_low,
-        q,
-        columns,
-        weights.as_mut_slice(),
-    ))
+impl<L: Level> OpenedTable<L> {
+    // The successor claim under a view that names q row variables: the multilinear value at the point of the table's bits one row on,
+    // last rows repeated.
+    pub fn successor_claim(
+        &self,
+        heap: Global,
+        eq_low: PerCoordinate<'_, L>,
+        q: usize,
+    ) -> Result<L, AllocError>
+        requires { L.Level.log ≤ 7 }
+        ensures { IfOk result (λ x. (p : Point L.Level.log) (bits : ℕ → ℕ) → Binary bits → L.Level.log ≤ length p → q ≤ length p → Tabulated L.means L.arithmetic L.arithmetic.unit (low p) eq_low.entry.elements.now → Worked L.Level p (Some q) bits self.now → L.means x ≡ multilinear L.arithmetic (λ c. standing L.arithmetic (one_row_on q bits c)) p) }
+    {
+        let mut columns = vec![in heap; L::zero(); width::<L>()]?;
+        let mut weights = vec![in heap; L::zero(); width::<L>()]?;
+        Ok(successor_claim(
+            self.tensor.reading(),
+            self.successor_tensors(),
+            eq_low,
+            q,
+            columns.as_mut_slice(),
+            weights.as_mut_slice(),
+        ))
+    }
 }

@@ -28,7 +28,7 @@ impl MaskedByte {
         }
     }
 
-    // The byte of the coordinates.
+    // The byte of the coordinates. A method, as `to_bytes` is, and no `From`: `u8::from` would not say that the shares are joined.
     pub fn byte(self) -> u8
         ensures { result ≡ bit_xor self.share self.mask }
     {

@@ -33,7 +33,8 @@ pub enum BitRingSwitchError {
         expected: usize,
         actual: usize,
     },
-    // A challenge is missing, or was given where no successor tensors are sent.
+    // A challenge is missing, or was given where no successor tensors are sent. The flag is the value that the refusal carries, by a rule of
+    // the project.
     SuccessorBatching {
         expected: bool,
     },
@@ -64,7 +65,8 @@ pub enum StepRefusal {
 }
 
 impl BitPackingError {
-    // The number that stands for the fault where it is reported: a report tells a refusal by number.
+    // The number that stands for the fault where it is reported: a report tells a refusal by number. A method, since `u8::from` would not say
+    // which number.
     pub fn number(self) -> u8
         ensures { result ≡ (packing_refusal self).number }
     {
@@ -78,7 +80,8 @@ impl BitPackingError {
 }
 
 impl BitRingSwitchError {
-    // The number that stands for the fault where it is reported: a report tells a refusal by number.
+    // The number that stands for the fault where it is reported: a report tells a refusal by number. A method, since `u8::from` would not say
+    // which number.
     pub fn number(self) -> u8
         ensures { result ≡ (ring_switch_refusal self).number }
     {
@@ -96,7 +99,7 @@ impl BitRingSwitchError {
 }
 
 impl StepRefusal {
-    // The number that stands for the fault.
+    // The number that stands for the fault, a method as that of each kind.
     pub fn number(self) -> u8
         ensures { result ≡ (refusal_of self).number }
     {

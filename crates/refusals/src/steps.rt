@@ -68,7 +68,7 @@ pub fn check_width(expected: usize, actual: usize) -> Result<(), BitRingSwitchEr
 }
 
 // Whether a batching stage fits: it has a challenge exactly where successor tensors are sent, and a coordinate for each that one
-// packed element absorbs.
+// packed element absorbs. Two flags and no `Option`s, since only whether each is there is tested, and the fault tells the first.
 pub fn check_batching<L: Level>(
     sent: bool,
     challenged: bool,
@@ -90,10 +90,8 @@ pub fn check_batching<L: Level>(
 pub fn check_successor(view: Option<usize>) -> Result<(), BitRingSwitchError>
     ensures { refused ring_switch_refusal result ≡ successor view }
 {
-    match view {
-        Some(_) => Ok(()),
-        None => Err(BitRingSwitchError::NoSuccessorView),
-    }
+    view.ok_or(BitRingSwitchError::NoSuccessorView)?;
+    Ok(())
 }
 
 // Whether there is a weight of this index.
@@ -118,11 +116,9 @@ pub fn check_closing(expected: usize, actual: usize) -> Result<(), BitRingSwitch
 }
 
 // The test for a power of two finds exactly the powers of two.
-pub fn powers_of_two_stand() -> u8
+pub fn powers_of_two_stand()
     ensures { PowersOfTwo }
-{
-    0
-}
+{}
 
 #[cfg(test)]
 mod tests {

@@ -4,12 +4,11 @@ ghost use Rattle.report_lines.specs.Replies.{ReplyAt, ReplyTo, Reply};
 
 use crate::reporter::Reporter;
 use byte_levels::polynomial_byte::PolynomialByte;
-use byte_levels::tower::TowerByte;
-use doubling::doubling::Doubling;
+use byte_levels::tower::{Tower16, Tower32, Tower64, TowerByte};
 use explain_input::input::{Input, read_input};
 use level::level::Level;
 use level_name::LevelName;
-use problem::errors::{input_error, problem_error};
+use problem::errors::error_reply;
 use problem::reading::read_problem;
 use std::alloc::{AllocError, Global};
 
@@ -19,7 +18,7 @@ fn reply_at<R: Reporter, L: Level>(heap: Global, input: &Input) -> Result<String
 {
     match read_problem::<L>(heap, input) {
         Ok(problem) => R::report(heap, &problem),
-        Err(fault) => problem_error(heap, fault),
+        Err(problem_fault) => error_reply(heap, problem_fault),
     }
 }
 
@@ -27,11 +26,12 @@ fn reply_at<R: Reporter, L: Level>(heap: Global, input: &Input) -> Result<String
 fn reply_to<R: Reporter>(heap: Global, input: &Input) -> Result<String, AllocError>
     ensures { IfOk result (λ s. ReplyTo (parts_of input.now) (string_bytes s)) }
 {
+    // A match of its own, like that of `product_line`: a trait for both, with an impl for each, is longer than the five lines.
     match input.level {
         LevelName::TowerByte => reply_at::<R, TowerByte>(heap, input),
-        LevelName::Tower16 => reply_at::<R, Doubling<TowerByte>>(heap, input),
-        LevelName::Tower32 => reply_at::<R, Doubling<Doubling<TowerByte>>>(heap, input),
-        LevelName::Tower64 => reply_at::<R, Doubling<Doubling<Doubling<TowerByte>>>>(heap, input),
+        LevelName::Tower16 => reply_at::<R, Tower16>(heap, input),
+        LevelName::Tower32 => reply_at::<R, Tower32>(heap, input),
+        LevelName::Tower64 => reply_at::<R, Tower64>(heap, input),
         LevelName::PolynomialByte => reply_at::<R, PolynomialByte>(heap, input),
     }
 }
@@ -42,6 +42,6 @@ pub fn reply<R: Reporter>(heap: Global, text: &[u8]) -> Result<String, AllocErro
 {
     match read_input(heap, text) {
         Ok(input) => reply_to::<R>(heap, &input),
-        Err(fault) => input_error(heap, fault),
+        Err(input_fault) => error_reply(heap, input_fault),
     }
 }

@@ -1,4 +1,4 @@
-ghost use Rattle.std.specs.Prelude.{◌≡◌, ◌^◌, ◌≤◌, length, IfOk, string_bytes};
+ghost use Rattle.std.specs.Prelude.{◌≡◌, IfOk, string_bytes};
 ghost use Rattle.problem.specs.Task.{task_of};
 ghost use Rattle.report_lines.specs.Report.{report_text};
 
@@ -10,6 +10,5 @@ use std::alloc::{AllocError, Global};
 pub trait Reporter {
     // The report of a problem: its lines, and a last one where a step is refused.
     fn report<L: Level>(heap: Global, problem: &Problem<L>) -> Result<String, AllocError>
-        requires { length problem.now.bits.items ≤ 2 ^ 24 }
         ensures { IfOk result (λ s. string_bytes s ≡ report_text L.arithmetic (task_of L.means problem.now)) };
 }

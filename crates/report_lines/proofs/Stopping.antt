@@ -1,6 +1,7 @@
 -- The text that a refusal stops.
 use Rattle.std.proofs.Common.{◌≡◌, ℕ, ◌+◌, ◌<◌, ◌≤◌, List, [], ◌∷◌, ◌++◌, map, length, get_or, drop, Some, None, vec_items, codes, Option, Vec, sym, ap, ◌∙◌, arith}
 use lib.ListN.{length-map}
+use Rattle.std.specs.Fn.{Mut, Called, AlwaysReturns}
 use Rattle.std.specs.declared.alloc.Global.{Global}
 use Rattle.std.proofs.lemmas.List.{append_assoc, append-nil, at_drop_more, at_drop_all}
 use Rattle.level.specs.Element.{Element}
@@ -39,20 +40,18 @@ module _ {X : Type 0} {k : ℕ} (means : X → Element k) (A : Arithmetic k) (b 
   points v = map means (vec_items v)
 
   module _ (inv : total ≡ a ++ closing_text A b (drop i (map points vs))) where
-    module _ (v : Vec X Global) (h : i < length vs) (is : v ≡ get_or vs i v) (z : List X) (z_is : z ≡ vec_items v) (slot : List X) (slot_is : b.slot ≡ map means slot) where
-      here : total ≡ a ++ unless (closing (length slot) (length z)) (closing_line A b (points v) ++ closing_text A b (drop (i + 1) (map points vs)))
+    module _ (v : Vec X Global) (h : i < length vs) (is : v ≡ get_or vs i v) (z : List X) (z_is : z ≡ vec_items v) where
+      here : total ≡ a ++ unless (closing (length b.slot) (length z)) (closing_line A b (points v) ++ closing_text A b (drop (i + 1) (map points vs)))
       here =
           next A b (map points vs) total a i inv (points v) (length z) (omega (arith, length-map vs points, h)) (means_at points vs i v [] h is)
           (ap length z_is ∙ sym (length-map (vec_items v) means))
-          ∙ ap (λ n. a ++ unless (closing n (length z)) (closing_line A b (points v) ++ closing_text A b (drop (i + 1) (map points vs))))
-          (ap length slot_is ∙ length-map slot means)
 
-      pub closing_refused : (r : Refusal) → Some r ≡ closing (length slot) (length z) → a ++ refusal_line r.number ≡ total
-      closing_refused r e = ap (λ t. a ++ t) (refused_text _ r _ e) ∙ sym here
+      pub closes_refused : (r : Refusal) → Some r ≡ closing (length b.slot) (length z) → a ++ refusal_line r.number ≡ total
+      closes_refused r e = ap (λ t. a ++ t) (refused_text _ r _ e) ∙ sym here
 
-      pub closing_more : (x : Element k) (c : List ℕ) → None ≡ closing (length slot) (length z) → x ≡ closing_value A (equality A b.batching) b.slot b.stepping (map means z)
+      pub closes_more : (x : Element k) (c : List ℕ) → None ≡ closing (length b.slot) (length z) → x ≡ closing_value A (equality A b.batching) b.slot b.stepping (map means z)
           → c ≡ a ++ line (codes "closing") (element_text x) → total ≡ c ++ closing_text A b (drop (i + 1) (map points vs))
-      closing_more x c e value w =
+      closes_more x c e value w =
           here ∙ ap (λ o. a ++ unless o (closing_line A b (points v) ++ closing_text A b (drop (i + 1) (map points vs)))) (sym e)
           ∙ sym (append_assoc a (closing_line A b (points v)) (closing_text A b (drop (i + 1) (map points vs))))
           ∙ ap (λ y. (a ++ line (codes "closing") (element_text y)) ++ closing_text A b (drop (i + 1) (map points vs)))
@@ -61,3 +60,7 @@ module _ {X : Type 0} {k : ℕ} (means : X → Element k) (A : Arithmetic k) (b 
 
     pub closing_all : length vs ≤ i → a ≡ total
     closing_all h = all A b (map points vs) total a i inv (omega (arith, length-map vs points, h))
+
+-- a closure that answers so at each call, after one call
+pub answers_next : {F X R : Type 0} (g : Mut F X R) (P : X → R → Type 0) {f f' : F} {a : X} {r : R} → Called g f a r f' → AlwaysReturns g P f → P a r × AlwaysReturns g P f'
+answers_next g P {a = a} called always = ((always.at (a ∷ []) _ _ called).0, record { at = λ xs. (always.at (a ∷ xs) _ _ called).1 })

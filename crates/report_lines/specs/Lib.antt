@@ -4,3 +4,5 @@ pub mod Batched
 pub mod Lines
 pub mod Report
 pub mod Replies
+pub mod Closings
+pub mod Messages

@@ -2,10 +2,10 @@
 // What a whole report is, whichever way its values are computed, is said in specs/Report.antt.
 #![tactic(auto)]
 
+pub mod closings;
 pub mod finish;
 pub mod lines;
 pub mod opening;
-pub mod shown;
 pub mod stepping;
 pub mod stop;
 pub mod variables;

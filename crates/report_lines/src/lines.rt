@@ -5,7 +5,7 @@ ghost use Rattle.report_lines.specs.Lines.{line, optional_text};
 ghost use Rattle.report_lines.specs.Report.{lines_below};
 ghost use Rattle.std.specs.Option.{option_map};
 
-use crate::shown::Shown;
+use element_text::element::Shown;
 use level::level::Level;
 use std::alloc::AllocError;
 use std::fmt::{Display, Write};

@@ -1,11 +1,14 @@
-ghost use Rattle.std.specs.Prelude.{◌≡◌, ◌++◌, string_bytes, OnOk};
-ghost use Rattle.report_lines.specs.Opened.{values_of};
+ghost use Rattle.std.specs.Prelude.{◌≡◌, ◌≤◌, ◌++◌, string_bytes, OnOk};
+ghost use Rattle.refusals.specs.Refusals.{ring_switch_refusal, refused};
+ghost use Rattle.report_lines.specs.Opened.{open_refusal, values_of};
 ghost use Rattle.report_lines.specs.Report.{opening_text};
 
 use crate::lines::{line, optional_line};
-use crate::shown::Shown;
+use element_text::element::Shown;
 use level::level::Level;
 use plain::slots::Prefix;
+use refusals::faults::BitRingSwitchError;
+use refusals::steps::{check_opening, check_width};
 use std::alloc::AllocError;
 
 // The values of an opening.
@@ -27,4 +30,17 @@ pub fn opening_lines<L: Level>(out: &mut String, opening: &Opening<L>) -> Result
     optional_line(out, "successor", opening.successor)?;
     line(out, "prefix", opening.prefix.count)?;
     line(out, "address", opening.prefix.address)
+}
+
+// Whether 2^variables packed elements can be opened at a point.
+pub fn check_open<L: Level>(
+    variables: usize,
+    num_variables: usize,
+    view: Option<usize>,
+) -> Result<(), BitRingSwitchError>
+    requires { L.Level.log ≤ 7 }
+    ensures { refused ring_switch_refusal result ≡ open_refusal L.Level.log variables num_variables view }
+{
+    check_opening::<L>(num_variables, view)?;
+    check_width(num_variables - usize::from(L::log_width()), variables)
 }

@@ -5,10 +5,13 @@ ghost use Rattle.tensor_algebra.specs.Tensor.{nothing, one, exterior, add, colum
 ghost use Rattle.ring_switch.specs.Claims.{by_columns};
 
 use crate::{equality, successor};
+use coordinates::per_coordinate::PerCoordinate;
 use level::level::Level;
 use tensor_rows::{columns, rows};
 
-// A tensor over lent rows: d elements, row u at place u.
+// A tensor over lent rows: d elements, row u at place u. The number of rows is no fact of the type, since `clear`, `add`, `scale_rows`
+// and `elements` do not ask for it. The methods name the functions over rows, which serve callers that hold a part of a longer slice:
+// code in the methods alone would make each such caller build a tensor around its part, and promise that it is the same slice still.
 #[derive(Drop)]
 pub struct BitTensor<'a, L> {
     pub rows: &'a mut [L],
@@ -20,6 +23,16 @@ impl<'a, L: Level> BitTensor<'a, L> {
         ensures { result.now ≡ self.now.rows.now }
     {
         self.rows
+    }
+
+    // The rows, where there is one for each coordinate.
+    fn per_coordinate(&self) -> PerCoordinate<'_, L>
+        requires { length self.now.rows.now ≡ width L.Level.log }
+        ensures { result.elements.now ≡ self.now.rows.now }
+    {
+        PerCoordinate {
+            elements: self.rows,
+        }
     }
 
     // Becomes the zero tensor.
@@ -73,13 +86,12 @@ impl<'a, L: Level> BitTensor<'a, L> {
     }
 
     // Adds (a ⊗ one) · other.
-    pub fn add_scaled_columns(&mut self, other: &[L], a: L)
+    pub fn add_scaled_columns(&mut self, other: PerCoordinate<L>, a: L)
         requires narrow { L.Level.log ≤ 7 }
         requires rows { length self.old.rows.now ≡ width L.Level.log }
-        requires other { length other.now ≡ width L.Level.log }
         ensures same { self.new.rows.ghost_name ≡ self.old.rows.ghost_name }
         ensures len { length self.new.rows.now ≡ length self.old.rows.now }
-        ensures rows { lent L.means self.new.rows.now ≡ add (lent L.means self.old.rows.now) (scale_columns L.arithmetic (L.means a) (lent L.means other.now)) }
+        ensures rows { lent L.means self.new.rows.now ≡ add (lent L.means self.old.rows.now) (scale_columns L.arithmetic (L.means a) (lent L.means other.entry.elements.now)) }
     {
         columns::add_scaled_columns(self.rows, other, a);
     }
@@ -145,7 +157,7 @@ impl<'a, L: Level> BitTensor<'a, L> {
         requires read { v < width L.Level.log }
         ensures { L.means result ≡ column (lent L.means self.now.rows.now) v }
     {
-        columns::column(self.elements(), v)
+        columns::column(self.per_coordinate(), v)
     }
 
     // Writes every column, column v at place v.
@@ -155,25 +167,23 @@ impl<'a, L: Level> BitTensor<'a, L> {
         requires out { length out.old ≡ width L.Level.log }
         ensures { lent L.means out.new ≡ column (lent L.means self.now.rows.now) }
     {
-        columns::columns(self.elements(), out);
+        columns::columns(self.per_coordinate(), out);
     }
 
     // The sum of all columns, column v times weight v.
-    pub fn by_columns(&self, weights: &[L]) -> L
+    pub fn by_columns(&self, weights: PerCoordinate<L>) -> L
         requires narrow { L.Level.log ≤ 7 }
         requires rows { length self.now.rows.now ≡ width L.Level.log }
-        requires weights { length weights.now ≡ width L.Level.log }
-        ensures { L.means result ≡ by_columns L.arithmetic (lent L.means weights.now) (lent L.means self.now.rows.now) }
+        ensures { L.means result ≡ by_columns L.arithmetic (lent L.means weights.entry.elements.now) (lent L.means self.now.rows.now) }
     {
-        columns::by_columns(self.elements(), weights)
+        columns::by_columns(self.per_coordinate(), weights)
     }
 
     // The sum of all rows, row u times weight u.
-    pub fn batch_rows(&self, weights: &[L]) -> L
+    pub fn batch_rows(&self, weights: PerCoordinate<L>) -> L
         requires rows { length self.now.rows.now ≡ width L.Level.log }
-        requires weights { length weights.now ≡ width L.Level.log }
-        ensures { L.means result ≡ batch_rows L.arithmetic (lent L.means weights.now) (lent L.means self.now.rows.now) }
+        ensures { L.means result ≡ batch_rows L.arithmetic (lent L.means weights.entry.elements.now) (lent L.means self.now.rows.now) }
     {
-        rows::batch_rows(self.elements(), weights)
+        rows::batch_rows(self.per_coordinate(), weights)
     }
 }

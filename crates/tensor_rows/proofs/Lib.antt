@@ -1,4 +1,3 @@
-pub mod Places
 pub mod Tensors
 pub mod Turns
 pub mod ColumnSums

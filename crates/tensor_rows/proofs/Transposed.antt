@@ -12,7 +12,7 @@ use Rattle.multilinear.specs.Cells.{gather}
 use Rattle.multilinear.proofs.Lent.{lent_read}
 use Rattle.multilinear.proofs.Coordinates.{coordinate_mod, coordinate_past, coordinate_zeros, coordinate_gather, gather_coordinates}
 use Rattle.tensor_algebra.specs.Tensor.{Tensor, column}
-use Rattle.tensor_rows.proofs.Places.{Written, written_all}
+use Rattle.multilinear.proofs.Places.{Written, written_all}
 
 -- the lowest digit by itself
 binary_first : (n : ℕ) (f : ℕ → ℕ) → binary (suc n) f ≡ 2 * binary n (λ j. f (suc j)) + f 0 % 2

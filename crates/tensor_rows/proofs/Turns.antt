@@ -1,6 +1,8 @@
 -- One turn of the loops over rows, and what they end with.
-use Rattle.std.proofs.Common.{◌≡◌, ◌==◌, ℕ, zero, suc, ◌+◌, ◌-◌, ◌*◌, ◌/◌, ◌%◌, ◌^◌, ◌<◌, ◌≤◌, min, max, List, length, get_or, take, drop, length-take-le, length-drop, set, sym, refl, ap, ◌∙◌, ap₂, ⊎_elim, add-one, arith, pow_mono}
+use Rattle.std.proofs.Common.{◌≡◌, ◌==◌, ℕ, zero, suc, ◌+◌, ◌-◌, ◌*◌, ◌/◌, ◌%◌, ◌^◌, ◌<◌, ◌≤◌, min, max, List, [], ◌∷◌, length, get_or, take, drop, length-take-le, length-drop, set, sym, ap, ◌∙◌, ap₂, ⊎_elim, add-one, arith, pow_mono}
 use borrow.Rule.Slice.PartMut.{put_mid}
+use mathlib.Core.Path.{fun_ext}
+use Rattle.std.specs.List.{FoldsTo}
 use Rattle.std.proofs.lemmas.Nat.{shr-shr}
 use Rattle.std.proofs.lemmas.Bool.{cases_lt}
 use Rattle.coordinates.proofs.Bytes.{rounded_up}
@@ -10,9 +12,9 @@ use Rattle.level.specs.Laws.{Arithmetic, Laws}
 use Rattle.level.proofs.Digits.{bytes_are_coordinates}
 use Rattle.multilinear.specs.Lent.{lent}
 use Rattle.multilinear.specs.Sums.{sum, at_bit, where_set}
-use Rattle.multilinear.proofs.Lent.{lent_read}
+use Rattle.multilinear.proofs.Lent.{lent_read, lent_past}
 use Rattle.tensor_algebra.specs.Tensor.{nothing, exterior, add, one, scale_rows, batch_rows}
-use Rattle.tensor_rows.proofs.Places.{Written, lent_past, before_part, in_part, past_part, of_part, written_read, written_more, written_all}
+use Rattle.multilinear.proofs.Places.{Written, before_part, in_part, past_part, of_part, written_read, written_more, written_all}
 use Rattle.tensor_rows.proofs.Tensors.{add_past, scale_rows_past, exterior_past, nothing_add, digit_set}
 
 -- the coordinates of byte j stand in an element
@@ -28,15 +30,17 @@ byte_fits (suc (suc (suc k))) j h l =
     (omega arith, omega arith)
 
 module _ {X : Type 0} {k : ℕ} (means : X → Element k) where
-  -- every row set to zero
-  pub cleared_more : (xs zs : List X) (i : ℕ) (y : X) → i < length zs → means y ≡ zeros k
-      → Written means nothing xs zs i → Written means nothing xs (set zs i y) (i + 1)
-  unfolding nothing
-  cleared_more xs zs i y h made w = written_more means nothing xs zs i y h made w
+  -- rows that were each made zero
+  filled_at : {F : Type 0} (step : F → X → F → Type 0) → ((p q : F) (x : X) → step p x q → means x ≡ zeros k)
+      → (p q : F) (xs : List X) → FoldsTo step p xs q → (i : ℕ) → lent means xs i ≡ zeros k
+  filled_at step each p q [] f i = lent_past means [] i (omega arith)
+  filled_at step each p q (x ∷ xs) f zero = each p f.0 x f.1
+  filled_at step each p q (x ∷ xs) f (suc i) = filled_at step each f.0 q xs f.2 i
 
-  pub cleared_all : (xs zs : List X) (i : ℕ) → length xs ≤ i → Written means nothing xs zs i → lent means zs ≡ nothing
+  pub filled_nothing : {F : Type 0} (step : F → X → F → Type 0) → ((p q : F) (x : X) → step p x q → means x ≡ zeros k)
+      → (p q : F) (xs : List X) → FoldsTo step p xs q → lent means xs ≡ nothing
   unfolding nothing
-  cleared_all xs zs i h w = written_all means nothing xs zs i h (λ j l. refl) w
+  filled_nothing step each p q xs f = fun_ext (filled_at step each p q xs f)
 
   -- rows added, row by row
   pub added_more : (ys xs zs : List X) (i : ℕ) (d y z : X) → i < length zs → i < length ys → y ≡ get_or ys i y

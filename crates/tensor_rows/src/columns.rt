@@ -7,6 +7,7 @@ ghost use Rattle.tensor_algebra.specs.Tensor.{nothing, exterior, add, column, sc
 ghost use Rattle.ring_switch.specs.Claims.{by_columns};
 
 use crate::rows::{add_exterior_product, add_where, clear};
+use coordinates::per_coordinate::PerCoordinate;
 use coordinates::{basis, coordinate, coordinates, from_coordinates, with_coordinate};
 use level::level::Level;
 
@@ -23,13 +24,12 @@ fn add_scaled_row<L: Level>(rows: &mut [L], u: usize, row: L, a: L)
 }
 
 // Adds (a ⊗ one) · other: the rows of `other`, its columns scaled by a.
-pub fn add_scaled_columns<L: Level>(rows: &mut [L], other: &[L], a: L)
+pub fn add_scaled_columns<L: Level>(rows: &mut [L], other: PerCoordinate<L>, a: L)
     requires narrow { L.Level.log ≤ 7 }
     requires rows { length rows.old ≡ width L.Level.log }
-    requires other { length other.now ≡ width L.Level.log }
-    ensures { lent L.means rows.new ≡ add (lent L.means rows.old) (scale_columns L.arithmetic (L.means a) (lent L.means other.now)) }
+    ensures { lent L.means rows.new ≡ add (lent L.means rows.old) (scale_columns L.arithmetic (L.means a) (lent L.means other.entry.elements.now)) }
 {
-    for (u, row) in other.iter().enumerate() {
+    for (u, row) in other.elements.iter().enumerate() {
         add_scaled_row(rows, u, *row, a);
     }
 }
@@ -43,7 +43,7 @@ pub fn scale_columns<L: Level>(rows: &mut [L], a: L, scratch: &mut [L])
     ensures scratch { lent L.means scratch.new ≡ nothing }
 {
     clear(scratch);
-    add_scaled_columns(scratch, rows, a);
+    add_scaled_columns(scratch, PerCoordinate { elements: rows }, a);
     rows.copy_from_slice(scratch);
     clear(scratch);
 }
@@ -67,33 +67,32 @@ pub fn mul_equality_factor<L: Level>(rows: &mut [L], a: L, b: L, scratch: &mut [
     ensures scratch { lent L.means scratch.new ≡ nothing }
 {
     clear(scratch);
-    add_scaled_columns(scratch, rows, a);
+    add_scaled_columns(scratch, PerCoordinate { elements: rows }, a);
     add_scaled(rows, scratch, b);
     clear(scratch);
 }
 
 // Column v, read as an element: its coordinate u is coordinate v of row u.
-pub fn column<L: Level>(rows: &[L], v: usize) -> L
+pub fn column<L: Level>(rows: PerCoordinate<L>, v: usize) -> L
     requires narrow { L.Level.log ≤ 7 }
-    requires rows { length rows.now ≡ width L.Level.log }
     requires read { v < width L.Level.log }
-    ensures { L.means result ≡ column (lent L.means rows.now) v }
+    ensures { L.means result ≡ column (lent L.means rows.entry.elements.now) v }
 {
     let mut column = 0;
-    for (u, row) in rows.iter().enumerate() {
+    for (u, row) in rows.elements.iter().enumerate() {
         column = with_coordinate(column, u, coordinate(coordinates(*row), v));
     }
     from_coordinates(column)
 }
 
-// The coordinates of every row, each row read once.
-fn row_coordinates<L: Level>(rows: &[L]) -> [u128; 128]
+// The coordinates of every row, each row read once. They lie in an array of the greatest width, since there is no heap, and are written
+// by index, since after a zip with `iter_mut` only their number is known.
+fn row_coordinates<L: Level>(rows: PerCoordinate<L>) -> [u128; 128]
     requires narrow { L.Level.log ≤ 7 }
-    requires rows { length rows.now ≡ width L.Level.log }
-    ensures { (u : ℕ) → u < width L.Level.log → slice_index result u ≡ (lent L.means rows.now u).number }
+    ensures { (u : ℕ) → u < width L.Level.log → slice_index result u ≡ (lent L.means rows.entry.elements.now u).number }
 {
     let mut source = [0; 128];
-    for (u, row) in rows.iter().enumerate() {
+    for (u, row) in rows.elements.iter().enumerate() {
         source[u] = coordinates(*row);
     }
     source
@@ -112,27 +111,27 @@ fn gather(source: &[u128], v: usize) -> u128
 }
 
 // Writes every column, read as an element, column v at place v.
-pub fn columns<L: Level>(rows: &[L], out: &mut [L])
+pub fn columns<L: Level>(rows: PerCoordinate<L>, out: &mut [L])
     requires narrow { L.Level.log ≤ 7 }
-    requires rows { length rows.now ≡ width L.Level.log }
     requires out { length out.old ≡ width L.Level.log }
-    ensures { lent L.means out.new ≡ column (lent L.means rows.now) }
+    ensures { lent L.means out.new ≡ column (lent L.means rows.entry.elements.now) }
 {
     let source = row_coordinates(rows);
+    let source = &source[..out.len()];
     for (v, column) in out.iter_mut().enumerate() {
-        *column = from_coordinates(gather(&source[..rows.len()], v));
+        *column = from_coordinates(gather(source, v));
     }
 }
 
-// The sum of the weights of an element's set coordinates.
-fn subset_sum<L: Level>(weights: &[L], x: L) -> L
+// The sum of the weights of an element's set coordinates. That of `plain` asks a closure for the weight of a
+// number; here the weights lie in a slice, which a loop goes over.
+fn subset_sum<L: Level>(weights: PerCoordinate<L>, x: L) -> L
     requires narrow { L.Level.log ≤ 7 }
-    requires weights { length weights.now ≡ width L.Level.log }
-    ensures { L.means result ≡ subset_sum (lent L.means weights.now) (L.means x) }
+    ensures { L.means result ≡ subset_sum (lent L.means weights.entry.elements.now) (L.means x) }
 {
     let mut rest = coordinates(x);
     let mut sum = L::zero();
-    for weight in weights {
+    for weight in weights.elements {
         sum = add_where(sum, rest % 2 == 1, *weight);
         rest /= 2;
     }
@@ -140,14 +139,12 @@ fn subset_sum<L: Level>(weights: &[L], x: L) -> L
 }
 
 // The sum of all columns, column v times weight v. It is summed by the rows, each of which is read once.
-pub fn by_columns<L: Level>(rows: &[L], weights: &[L]) -> L
+pub fn by_columns<L: Level>(rows: PerCoordinate<L>, weights: PerCoordinate<L>) -> L
     requires narrow { L.Level.log ≤ 7 }
-    requires rows { length rows.now ≡ width L.Level.log }
-    requires weights { length weights.now ≡ width L.Level.log }
-    ensures { L.means result ≡ by_columns L.arithmetic (lent L.means weights.now) (lent L.means rows.now) }
+    ensures { L.means result ≡ by_columns L.arithmetic (lent L.means weights.entry.elements.now) (lent L.means rows.entry.elements.now) }
 {
     let mut sum = L::zero();
-    for (u, row) in rows.iter().enumerate() {
+    for (u, row) in rows.elements.iter().enumerate() {
         sum = sum.add(basis::<L>(u).mul(subset_sum(weights, *row)));
     }
     sum

@@ -4,19 +4,19 @@ ghost use Rattle.multilinear.specs.Lent.{lent};
 ghost use Rattle.multilinear.specs.Sums.{at_bit, where_set};
 ghost use Rattle.tensor_algebra.specs.Tensor.{nothing, one, exterior, add, scale_rows, batch_rows};
 
+use coordinates::per_coordinate::PerCoordinate;
 use coordinates::{num_bytes, width};
 use level::level::Level;
 
-// Sets every row to zero. It is no `fill`, which asks that a clone cannot fail, and `Copy` does not say so.
+// Sets every row to zero. It is no `fill`, which asks that a clone cannot fail, and `Copy` does not say so. A closure around `L::zero`, since
+// a function of a type parameter that is handed over by name is refused.
 pub fn clear<L: Level>(rows: &mut [L])
     ensures { lent L.means rows.new ≡ nothing }
 {
-    for row in rows.iter_mut() {
-        *row = L::zero();
-    }
+    rows.fill_with(|| L::zero());
 }
 
-// x, with y added where a coordinate is set.
+// x, with y added where a coordinate is set, and nothing added elsewhere.
 pub(crate) fn add_where<L: Level>(x: L, set: bool, y: L) -> L
     ensures { L.means result ≡ plus (L.means x) (where_set set (L.means y)) }
 {
@@ -80,13 +80,11 @@ pub fn scale_rows<L: Level>(rows: &mut [L], b: L)
 }
 
 // The sum of the rows, each times its weight.
-pub fn batch_rows<L: Level>(rows: &[L], weights: &[L]) -> L
-    requires rows { length rows.now ≡ width L.Level.log }
-    requires weights { length weights.now ≡ width L.Level.log }
-    ensures { L.means result ≡ batch_rows L.arithmetic (lent L.means weights.now) (lent L.means rows.now) }
+pub fn batch_rows<L: Level>(rows: PerCoordinate<L>, weights: PerCoordinate<L>) -> L
+    ensures { L.means result ≡ batch_rows L.arithmetic (lent L.means weights.entry.elements.now) (lent L.means rows.entry.elements.now) }
 {
     let mut sum = L::zero();
-    for (row, weight) in rows.iter().zip(weights) {
+    for (row, weight) in rows.elements.iter().zip(weights.elements) {
         sum = sum.add(weight.mul(*row));
     }
     sum

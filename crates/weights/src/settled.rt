@@ -1,5 +1,5 @@
 ghost use Rattle.std.specs.Prelude.{◌≡◌, ℕ, ◌+◌, ◌*◌, ◌^◌, ◌<◌, ◌≤◌, length};
-ghost use Rattle.level.specs.Element.{Element, width};
+ghost use Rattle.level.specs.Element.{Element};
 ghost use Rattle.multilinear.specs.Equality.{Point, entry};
 ghost use Rattle.multilinear.specs.Lent.{lent};
 ghost use Rattle.tensor_algebra.specs.Tensor.{nothing, subset_sum};
@@ -8,6 +8,7 @@ ghost use Rattle.equality.specs.Tables.{Factors};
 
 use basis::coordinate_sums::{CoordinateSums, scaled_sums_into, tabulate};
 use coordinates::num_bytes;
+use coordinates::per_coordinate::PerCoordinate;
 use equality::factored::FactoredEquality;
 use level::level::Level;
 use tensor_rows::rows::clear;
@@ -21,7 +22,8 @@ pub fn scratch_len<L: Level>() -> usize
 }
 
 // Writes a block of settled weights: the sums for the inner entries, each scaled by the block's weight. The scale goes into the tables
-// once, and not into every entry.
+// once, and not into every entry. The two tables are no struct: over `scaled`, which is
+// written, each function would owe that it is the same slice still.
 fn settle_block<L: Level>(block: &mut [L], inner: &[L], weight: L, sums: &[L], scaled: &mut [L])
     requires narrow { L.Level.log ≤ 7 }
     requires equal { length block.old ≡ length inner.now }
@@ -79,14 +81,13 @@ fn settle_blocks<L: Level>(
 fn settle<L: Level>(
     table: &mut [L],
     equality: &FactoredEquality<'_, L>,
-    eq_batch: &[L],
+    eq_batch: PerCoordinate<L>,
     scratch: &mut [L],
 )
     requires narrow { L.Level.log ≤ 7 }
     requires table { length table.old ≡ length equality.now.outer.now * length equality.now.inner.now }
-    requires batching { length eq_batch.now ≡ width L.Level.log }
     requires scratch { length scratch.old ≡ 512 * num_bytes L.Level.log }
-    ensures { (b j : ℕ) → b < length equality.now.outer.now → j < length equality.now.inner.now → lent L.means table.new (b * length equality.now.inner.now + j) ≡ subset_sum (lent L.means eq_batch.now) (L.arithmetic.times (lent L.means equality.now.outer.now b) (lent L.means equality.now.inner.now j)) }
+    ensures { (b j : ℕ) → b < length equality.now.outer.now → j < length equality.now.inner.now → lent L.means table.new (b * length equality.now.inner.now + j) ≡ subset_sum (lent L.means eq_batch.entry.elements.now) (L.arithmetic.times (lent L.means equality.now.outer.now b) (lent L.means equality.now.inner.now j)) }
 {
     let (sums, scaled) = scratch.split_at_mut(256 * num_bytes::<L>());
     tabulate(sums, eq_batch);
@@ -98,14 +99,13 @@ fn settle<L: Level>(
 pub fn settled_weights<L: Level>(
     table: &mut [L],
     equality: &FactoredEquality<'_, L>,
-    eq_batch: &[L],
+    eq_batch: PerCoordinate<L>,
     scratch: &mut [L],
 )
     requires narrow { L.Level.log ≤ 7 }
     requires table { length table.old ≡ length equality.now.outer.now * length equality.now.inner.now }
-    requires batching { length eq_batch.now ≡ width L.Level.log }
     requires scratch { length scratch.old ≡ 512 * num_bytes L.Level.log }
-    ensures weights { (s : Element L.Level.log) (p : Point L.Level.log) → Factors L.means L.arithmetic s p equality.now.outer.now equality.now.inner.now → (i : ℕ) → i < 2 ^ length p → lent L.means table.new i ≡ subset_sum (lent L.means eq_batch.now) (entry L.arithmetic s p i) }
+    ensures weights { (s : Element L.Level.log) (p : Point L.Level.log) → Factors L.means L.arithmetic s p equality.now.outer.now equality.now.inner.now → (i : ℕ) → i < 2 ^ length p → lent L.means table.new i ≡ subset_sum (lent L.means eq_batch.entry.elements.now) (entry L.arithmetic s p i) }
     ensures scratch { lent L.means scratch.new ≡ nothing }
 {
     settle(table, equality, eq_batch, scratch);

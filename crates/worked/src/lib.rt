@@ -3,8 +3,6 @@
 
 ghost use Rattle.worked.specs.Cases.{Worked};
 
-pub fn worked_stands() -> u8
+pub fn worked_stands()
     ensures { Worked }
-{
-    0
-}
+{}

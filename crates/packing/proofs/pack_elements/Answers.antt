@@ -5,17 +5,6 @@ use Rattle.packing.proofs.ElementsOfBytes.{packed_from_bytes}
 use Rattle.packing.proofs.ElementsWritten.{chunk_is, rest_is, chunk_within, chunk_counted, chunks_counted, packed_more}
 use Rattle.packing.proofs.pack_elements.Goals as goal
 
-pub offset_bounds-elements-w : goal.offset_bounds-elements-w
-offset_bounds-elements-w g c =
-    let it = c.loop-w.invariant in
-    let s = c.in-Some.ensures.steps in
-    let pos : 0 < c.num_bytes-len.result = omega arith in
-    let fits = chunk_counted c.args.bits.now c.in-Some.bytes.now _ (enumerate_count c.loop-w.w-iterator) c.num_bytes-len.result
-    (sym it.rest ∙ s.0.1.0) (s.0.1.1 ∙ it.size) pos in
-    let count = ap (λ n. length c.args.bits.now / n) c.num_bytes-len.ensures in
-    let within : c.in-Some.w < length c.loop-w.elements = omega (arith, fits, count) in
-    grind arith
-
 pub loop-w-preserved : goal.loop-w-preserved
 loop-w-preserved g c =
     let m = g.L.Level in

@@ -1,10 +1,7 @@
 use Rattle.std.proofs.Common.{arith, length-drop}
 use Rattle.std.proofs.lemmas.List.{length-take}
-use Rattle.basis.proofs.CompletedTables.{completed_part, completed_none, completed_more, completed_all}
+use Rattle.basis.proofs.CompletedTables.{completed_part, completed_more}
 use Rattle.basis.proofs.coordinate_sums.complete.Goals as goal
-
-pub loop-position-init : goal.loop-position-init
-loop-position-init g c = completed_none _
 
 pub loop-position-preserved : goal.loop-position-preserved
 loop-position-preserved g c =
@@ -12,6 +9,3 @@ loop-position-preserved g c =
     completed_more _ _ _ n c.loop-position.invariant
     (completed_part g.L.Level.means c.loop-position.tables c.complete_position.new.table n _ (omega arith) (omega arith)
     (omega (arith, simp (length-take, length-drop) at c.complete_position.auto.table)) c.complete_position.ensures)
-
-pub returns : goal.returns
-returns g c = completed_all _ _ c.loop-position.position (omega arith) c.loop-position.invariant

@@ -26,12 +26,6 @@ loop-i-init g c =
     subst (λ (xs : List (Element g.L.Level.log)). Front (2 * c.byte_count-digits.result) c.args.text.now xs 0) (sym (ap (map g.L.Level.means) c.new-elements.ensures.items))
     (front_none (2 * c.byte_count-digits.result) c.args.text.now)
 
-pub element_at-requires : goal.element_at-requires
-element_at-requires g c = (
-  ap (λ m. 2 * m) c.byte_count-digits.ensures.value,
-  room (2 * c.byte_count-digits.result) (length c.args.text.now) c.loop-i.i c.if-text-digits.false c.loop-i-test.true,
-)
-
 pub returns-in_err-element_at : goal.returns-in_err-element_at
 returns-in_err-element_at g c =
     let p = err_from_is_err_and c.from_residual.result c.from_residual.ensures.1 in

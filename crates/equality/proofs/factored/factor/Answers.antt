@@ -1,8 +1,5 @@
-use Rattle.equality.proofs.Factoring.{inner_size, factors_written}
+use Rattle.equality.proofs.Factoring.{factors_written}
 use Rattle.equality.proofs.factored.factor.Goals as goal
-
-pub equality_table-requires-2 : goal.equality_table-requires-2
-equality_table-requires-2 g c = inner_size c.args.point.now _ _ c.halves.ensures.inner c.requires.inner_len
 
 pub returns : goal.returns
 returns g c =

@@ -1,8 +1,13 @@
-use Rattle.std.proofs.Common.{◌++◌, map, length, vec_items, string_bytes, Vec, sym, ap, ◌∙◌, subst}
+use Rattle.std.proofs.Common.{◌≡◌, IfOk, ◌++◌, map, length, vec_items, string_bytes, Vec, sym, ap, ◌∙◌, subst, rules}
 use lib.ListN.{length-map}
+use Rattle.std.proofs.lemmas.Fn.{always_returns_same}
 use Rattle.std.proofs.lemmas.Result.{err_from_is_err_and}
 use Rattle.std.specs.declared.alloc.Global.{Global}
 use Rattle.multilinear.specs.Equality.{Point}
+use Rattle.multilinear.specs.Equality.{equality}
+use Rattle.ring_switch.specs.Batching.{closing_value}
+use Rattle.refusals.specs.Refusals.{ring_switch_refusal, refused}
+use Rattle.refusals.specs.Steps.{closing}
 use Rattle.explanation.specs.Batched.{batching_of}
 use Rattle.problem.specs.Task.{task_of}
 use Rattle.report_lines.specs.Report.{Reported, closing_text}
@@ -33,4 +38,8 @@ returns g c =
     ∙ batching_passed m.arithmetic t _ c.as_slice-bits.ensures.value (string_bytes c.args.out.now) _ (ap (map m.means) c.as_slice-point.ensures.value)
     (map m.means b) (length b) (sym (length-map b m.means)) _ (some_mapped m.means problem.challenge) w s
     c.in_ok-batched.ensures.refusal c.in_ok-batched.ensures.batched c.in_ok-batch_lines.ensures)
-    c.closing_lines.ensures
+    (c.closing_lines.ensures s (always_returns_same _ _ _ (λ a r f called.
+    let slot = c.in_ok-batched.batched.batching.slot.now in
+    let refusal : refused ring_switch_refusal r ≡ closing (length slot) (length a.0.now) = search (rules, called.met) in
+    let value : IfOk r (λ x. m.means x ≡ closing_value m.arithmetic (equality m.arithmetic s.batching) s.slot s.stepping (map m.means a.0.now)) = search (rules, called.met) in
+    ((refusal ∙ ap (λ n. closing n (length a.0.now)) (sym (length-map slot m.means)), value), search (rules, called.met)))))

@@ -16,12 +16,12 @@ returns-in_err-variables g c =
 
 pub overflow_shl-variables : goal.overflow_shl-variables
 overflow_shl-variables g c =
-    let small : length c.as_slice-bits.result.now ≤ 2 ^ 24 = omega (arith, c.requires, ap length c.as_slice-bits.ensures.value) in
+    let small : length c.as_slice-bits.result.now ≤ 2 ^ 24 = omega (arith, c.args.problem.now.few, ap length c.as_slice-bits.ensures.value) in
     omega (arith, few _ _ _ c.in_ok-variables.ensures.packs small)
 
 pub packed_lines-requires : goal.packed_lines-requires
 packed_lines-requires g c =
-    let small : length c.as_slice-bits.result.now ≤ 2 ^ 24 = omega (arith, c.requires, ap length c.as_slice-bits.ensures.value) in
+    let small : length c.as_slice-bits.result.now ≤ 2 ^ 24 = omega (arith, c.args.problem.now.few, ap length c.as_slice-bits.ensures.value) in
     let p = c.in_ok-variables.ensures.packs in
     let v = c.in_ok-variables.variables in
     (p.narrow, subst (λ (n : ℕ). n * 2 ^ g.L.Level.log ≤ 2 ^ 64) (sym (one_shl v 64 (omega (arith, few _ _ _ p small)))) (cells_few _ _ _ p small))
@@ -29,7 +29,7 @@ packed_lines-requires g c =
 pub opened_lines-requires : goal.opened_lines-requires
 opened_lines-requires g c =
     let bits = c.as_slice-bits.ensures.value in
-    let small : length c.as_slice-bits.result.now ≤ 2 ^ 24 = omega (arith, c.requires, ap length bits) in
+    let small : length c.as_slice-bits.result.now ≤ 2 ^ 24 = omega (arith, c.args.problem.now.few, ap length bits) in
     let p = c.in_ok-variables.ensures.packs in
     record {
       narrow = p.narrow;
@@ -42,7 +42,7 @@ returns g c =
     let m = g.L.Level in
     let t = task_of m.means c.args.problem.now in
     let bits = c.as_slice-bits.ensures.value in
-    let small : length c.as_slice-bits.result.now ≤ 2 ^ 24 = omega (arith, c.requires, ap length bits) in
+    let small : length c.as_slice-bits.result.now ≤ 2 ^ 24 = omega (arith, c.args.problem.now.few, ap length bits) in
     let p = c.in_ok-variables.ensures.packs in
     let v = c.in_ok-variables.variables in
     subst (Reported c.opened_lines.result (string_bytes c.opened_lines.new.out))

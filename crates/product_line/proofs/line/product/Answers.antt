@@ -1,15 +1,8 @@
 use Rattle.std.proofs.Common.{ℕ, ◌+◌, ◌*◌, take, drop, sym, ap, ◌∙◌, subst}
-use Rattle.std.proofs.lemmas.Bool.{both_ways}
 use Rattle.element_text.specs.Hex.{element_text}
 use Rattle.product_line.specs.Lines.{Operands}
-use Rattle.product_line.proofs.Shapes.{operands_shaped, shaped_operands}
+use Rattle.product_line.proofs.Shapes.{shaped_operands}
 use Rattle.product_line.proofs.line.product.Goals as goal
-
-pub returns-then-not-has_shape : goal.returns-then-not-has_shape
-returns-then-not-has_shape g c = (
-  ap (λ n. 2 * n) c.byte_count-digits.ensures.value,
-  λ left right o. both_ways _ (sym c.if-not-has_shape.ensures) (operands_shaped _ _ left right o),
-)
 
 pub returns : goal.returns
 returns g c =

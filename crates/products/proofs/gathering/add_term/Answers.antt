@@ -1,10 +1,7 @@
 use Rattle.std.proofs.Common.{take, arith}
 use Rattle.std.proofs.lemmas.List.{length-take}
-use Rattle.products.proofs.Adding.{byte_small, adding_begins, adding_more, adding_ends}
+use Rattle.products.proofs.Adding.{byte_small, adding_more, adding_ends}
 use Rattle.products.proofs.gathering.add_term.Goals as goal
-
-pub loop-j-init : goal.loop-j-init
-loop-j-init g c = adding_begins _ _ _
 
 pub loop-j-preserved : goal.loop-j-preserved
 loop-j-preserved g c =

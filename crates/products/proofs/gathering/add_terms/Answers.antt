@@ -1,4 +1,4 @@
-use Rattle.std.proofs.Common.{◌≡◌, length, sym, arith}
+use Rattle.std.proofs.Common.{sym, arith}
 use Rattle.multilinear.specs.Lent.{lent}
 use Rattle.multilinear.proofs.Lent.{lent_read}
 use Rattle.products.proofs.Adding.{bucketed_none, bucketed_more}
@@ -14,8 +14,3 @@ loop-w-preserved g c =
     bucketed_more _ _ w _ _ (lent f c.loop-w.buckets) (lent f c.add_term.new.buckets)
     (sym (lent_read f c.args.left.now w _ (omega arith) c.index-left-w.is))
     (sym (lent_read f c.args.right.now w _ (omega arith) c.index-right-w.is)) c.add_term.ensures c.loop-w.invariant
-
-pub returns : goal.returns
-returns g c =
-    let e : c.loop-w.w ≡ length c.args.left.now = omega arith in
-    rw e at c.loop-w.invariant

@@ -1,5 +1,5 @@
 use Rattle.std.proofs.Common.{arith}
-use Rattle.products.proofs.ReadingBits.{reading_begins, reading_more, reading_ends}
+use Rattle.products.proofs.ReadingBits.{reading_begins, reading_more}
 use Rattle.products.proofs.reading.read_byte.Goals as goal
 
 pub loop-i-init : goal.loop-i-init
@@ -9,6 +9,3 @@ pub loop-i-preserved : goal.loop-i-preserved
 loop-i-preserved g c =
     reading_more _ g.L.Level.means c.loop-i.i _ _ _ c.loop-i.rows _ (omega arith) (omega arith) (omega arith) c.half.ensures
     c.halve.ensures.halved c.halve.ensures.upper c.loop-i.invariant
-
-pub returns : goal.returns
-returns g c = reading_ends _ c.loop-i.i _ _ (omega arith) c.loop-i.invariant

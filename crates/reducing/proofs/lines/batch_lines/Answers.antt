@@ -14,14 +14,14 @@ unfolding batching_text
 returns g c =
     let m = g.L.Level in
     let b = c.args.batch.now in
-    let f : ℕ → List ℕ = weight_line m.arithmetic (batching_of m.means b) in
+    let f : ℕ → List ℕ = weight_line m.arithmetic (batching_of m b) in
     let count = 2 ^ length (map m.means b.batching.slot.now) in
-    let size : length c.as_slice.result.now ≡ 2 ^ length b.batching.slot.now = ap length c.as_slice.ensures.value ∙ c.requires.count in
+    let size : length c.as_slice.result.now ≡ 2 ^ length b.batching.slot.now = ap length c.as_slice.ensures.value ∙ b.count in
     let same : length c.as_slice.result.now ≡ count = size ∙ ap (λ n. 2 ^ n) (sym (length-map b.batching.slot.now m.means)) in
     let text : ℕ → List ℕ = λ i. line (codes "weight") (element_text (lent m.means c.as_slice.result.now i)) in
     let lines : lines_below (length c.as_slice.result.now) text ≡ lines_below count f =
     below_same (length c.as_slice.result.now) text f (λ i h. ap (λ x. line (codes "weight") (element_text x))
-    (ap (λ xs. lent m.means xs i) c.as_slice.ensures.value ∙ c.requires.weights i (subst (λ n. i < n) size h)))
+    (ap (λ xs. lent m.means xs i) c.as_slice.ensures.value ∙ b.weighed i (subst (λ n. i < n) size h)))
     ∙ ap (λ n. lines_below n f) same in
     let written = string_bytes c.line.new.out in
     on_ok_weaker c.element_lines.result (λ e. joined (string_bytes c.args.out.now) written (string_bytes c.element_lines.new.out)

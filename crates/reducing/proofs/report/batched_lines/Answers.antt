@@ -1,4 +1,4 @@
-use Rattle.std.proofs.Common.{◌≡◌, ◌<◌, Bool, List, ◌++◌, map, length, is_some, None, vec_items, string_bytes, Vec, sym, refl, ap, ◌∙◌, subst, ap₂, arith}
+use Rattle.std.proofs.Common.{◌≡◌, Bool, List, ◌++◌, map, length, is_some, None, vec_items, string_bytes, Vec, sym, refl, ap, ◌∙◌, subst, ap₂}
 use lib.ListN.{length-map}
 use Rattle.std.proofs.lemmas.Result.{err_from_is_err_and}
 use Rattle.std.specs.declared.alloc.Global.{Global}
@@ -13,7 +13,6 @@ use Rattle.report_lines.specs.Report.{Reported, closing_text}
 use Rattle.report_lines.proofs.Reporting.{batching_refused, batching_passed}
 use Rattle.reduction.specs.Worked.{Worked}
 use Rattle.reducing.specs.Batched.{batching_of}
-use Rattle.reducing.proofs.Reports.{few_elements}
 use Rattle.reducing.proofs.report.batched_lines.Given as given
 use Rattle.reducing.proofs.report.batched_lines.Goals as goal
 use Rattle.reducing.proofs.report.batched_lines.Goals.{In_ok-check_batching}
@@ -38,31 +37,6 @@ passed g c =
     let sent : c.is_some-sent.result ≡ is_some (kept m.log problem.view) = c.is_some-sent.ensures ∙ ap is_some c.kept_row_variables.ensures in
     c.in_ok-check_batching.ensures ∙ ap₂ (λ (s u : Bool). batching (told m.log) s u (length c.args.batching.now)) sent c.is_some.ensures
 
-pub batch_slot-requires : goal.batch_slot-requires
-batch_slot-requires g c =
-    let m = g.L.Level in
-    let points = ap length c.as_slice-point.ensures.value in
-    let w = c.requires.worked in
-    let short : length (map m.means (vec_items c.args.problem.now.point)) < 64 = omega (arith, length-map (vec_items c.args.problem.now.point) m.means, c.requires.short) in
-    record {
-      narrow = c.requires.narrow;
-      short = omega (arith, points, c.requires.short);
-      rows = omega (arith, points, c.requires.rows);
-      passed = sym (passed g (goal.at.batch_slot-requires g c).In_ok-check_batching);
-      count = few_elements m.means g.met.L.Level.ring _ _ _ _ w.factors short;
-      tensor = w.tensor_rows;
-      carry = w.carry_rows;
-      last = w.last_rows;
-    }
-
-pub batch_lines-requires : goal.batch_lines-requires
-batch_lines-requires g c =
-    let m = g.L.Level in
-    let problem = c.args.problem.now in
-    let worked = subst (λ (xs : List g.row.L.Denot). Worked m.means m.arithmetic (map m.means xs) problem.view (cell (vec_items problem.bits)) c.args.opened.now) (sym c.as_slice-point.ensures.value) c.requires.worked in
-    let b = c.in_ok-batch.ensures in
-    record { count = b.count _ worked; weights = b.weights _ worked }
-
 pub returns : goal.returns
 returns g c =
     let m = g.L.Level in
@@ -70,12 +44,12 @@ returns g c =
     let t = task_of m.means problem in
     let b = c.args.batching.now in
     let points : Vec g.row.L.Denot Global → Point m.log = λ v. map m.means (vec_items v) in
-    let s = batching_of m.means c.in_ok-batch.batch in
+    let s = batching_of m c.in_ok-batch.batch in
     let w = string_bytes c.batch_lines.new.out in
-    let worked = subst (λ (xs : List g.row.L.Denot). Worked m.means m.arithmetic (map m.means xs) problem.view (cell (vec_items problem.bits)) c.args.opened.now) (sym c.as_slice-point.ensures.value) c.requires.worked in
+    let worked = subst (λ (xs : List g.row.L.Denot). Worked m (map m.means xs) problem.view (cell (vec_items problem.bits)) c.args.opened.now) (sym c.as_slice-point.ensures.value) c.requires.worked in
     subst (Reported c.closing_lines.result (string_bytes c.closing_lines.new.out))
     (ap (λ l. w ++ closing_text m.arithmetic s (map points l)) c.as_slice.ensures.value
     ∙ batching_passed m.arithmetic t (vec_items problem.bits) refl (string_bytes c.args.out.now) _ (ap (map m.means) c.as_slice-point.ensures.value)
     (map m.means b) (length b) (sym (length-map b m.means)) _ (some_mapped m.means problem.challenge) w s
-    (passed g (goal.at.returns g c).In_ok-check_batching) (c.in_ok-batch.ensures.batched _ worked) c.in_ok-batch_lines.ensures)
+    (passed g (goal.at.returns g c).In_ok-check_batching) (c.in_ok-batch.ensures _ worked) c.in_ok-batch_lines.ensures)
     c.closing_lines.ensures

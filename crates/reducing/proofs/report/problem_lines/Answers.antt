@@ -1,16 +1,17 @@
-use Rattle.std.proofs.Common.{◌≡◌, ℕ, ◌*◌, ◌^◌, ◌<◌, ◌≤◌, List, ◌++◌, length, string_bytes, codes, sym, ap, ◌∙◌, subst, ap₂, arith}
+use Rattle.std.proofs.Common.{◌≡◌, ℕ, ◌*◌, ◌/◌, ◌^◌, ◌<◌, ◌≤◌, List, ◌++◌, length, string_bytes, codes, sym, ap, ◌∙◌, subst, ap₂, arith}
 use Rattle.std.proofs.lemmas.Nat.{one_shl}
 use Rattle.std.proofs.lemmas.Result.{err_from_is_err_and}
 use Rattle.element_text.specs.Hex.{element_text}
 use Rattle.multilinear.specs.Cells.{cell, packed}
 use Rattle.multilinear.specs.Lent.{lent}
 use Rattle.problem.specs.Task.{task_of}
+use Rattle.refusals.specs.Steps.{told, stride, packing}
 use Rattle.report_lines.specs.Lines.{line}
-use Rattle.report_lines.specs.Report.{Reported, lines_below, packed_line, variables_of}
+use Rattle.report_lines.specs.Report.{Reported, lines_below, packed_line}
 use Rattle.report_lines.proofs.Packed.{packable, few, variables_are}
 use Rattle.report_lines.proofs.Reporting.{packing_refused, packing_passed}
 use Rattle.report_lines.proofs.Writing.{below_same}
-use Rattle.reducing.proofs.Reports.{stride_is}
+use Rattle.reducing.proofs.Reports.{stride_is, packed_count}
 use Rattle.reducing.proofs.report.problem_lines.Goals as goal
 
 pub returns-in_err-variables : goal.returns-in_err-variables
@@ -22,51 +23,41 @@ returns-in_err-variables g c =
 
 pub overflow_shl-variables : goal.overflow_shl-variables
 overflow_shl-variables g c =
-    let small : length c.as_slice-bits.result.now ≤ 2 ^ 24 = omega (arith, c.requires, ap length c.as_slice-bits.ensures.value) in
+    let small : length c.as_slice-bits.result.now ≤ 2 ^ 24 = omega (arith, c.args.problem.now.few, ap length c.as_slice-bits.ensures.value) in
     omega (arith, few _ _ _ c.in_ok-variables.ensures.packs small)
 
-pub pack-requires : goal.pack-requires
-pack-requires g c =
+pub pack-requires-clause-level : goal.pack-requires-clause-level
+pack-requires-clause-level g c =
+    let cells = packable g.L.Level.log (length c.as_slice-bits.result.now) c.in_ok-variables.ensures.refusal in
+    (cells.wide, cells.narrow)
+
+pub pack-requires-clause-count : goal.pack-requires-clause-count
+pack-requires-clause-count g c =
     let k = g.L.Level.log in
     let n = length c.as_slice-bits.result.now in
-    let small : n ≤ 2 ^ 24 = omega (arith, c.requires, ap length c.as_slice-bits.ensures.value) in
+    let small : n ≤ 2 ^ 24 = omega (arith, c.args.problem.now.few, ap length c.as_slice-bits.ensures.value) in
     let p = c.in_ok-variables.ensures.packs in
     let cells = packable k n c.in_ok-variables.ensures.refusal in
     let v = c.in_ok-variables.variables in
-    record {
-      level = (cells.wide, cells.narrow);
-      count = p.bytes ∙ ap₂ (λ (a b : ℕ). a * b) (sym (one_shl v 64 (omega (arith, few _ _ _ p small)))) (sym (stride_is k cells.wide cells.narrow));
-    }
+    p.bytes ∙ ap₂ (λ (a b : ℕ). a * b) (sym (one_shl v 64 (omega (arith, few _ _ _ p small)))) (sym (stride_is k cells.wide cells.narrow))
 
-pub opened_lines-requires : goal.opened_lines-requires
-opened_lines-requires g c =
+pub opened_lines-requires-clause-count : goal.opened_lines-requires-clause-count
+opened_lines-requires-clause-count g c =
     let m = g.L.Level in
     let bits = c.as_slice-bits.ensures.value in
     let n = length c.as_slice-bits.result.now in
-    let small : n ≤ 2 ^ 24 = omega (arith, c.requires, ap length bits) in
+    let small : n ≤ 2 ^ 24 = omega (arith, c.args.problem.now.few, ap length bits) in
     let p = c.in_ok-variables.ensures.packs in
     let cells = packable m.log n c.in_ok-variables.ensures.refusal in
-    let v = c.in_ok-variables.variables in
-    let shifted = one_shl v 64 (omega (arith, few _ _ _ p small)) in
-    let items = c.as_slice-2.ensures.value in
-    let e = c.in_ok-packed.ensures in
-    record {
-      wide = cells.wide;
-      narrow = cells.narrow;
-      few = few _ _ _ p small;
-      variables = variables_are _ _ _ p small ∙ ap (λ (l : List ℕ). variables_of m.log (length l)) bits;
-      count = ap length items ∙ e.count ∙ shifted;
-      elements =
-          λ w h. ap (λ xs. lent m.means xs w) items ∙ e.elements w (subst (λ (i : ℕ). w < i) (ap length items ∙ e.count) h)
-          ∙ ap (λ (l : List ℕ). packed m.log (cell l) w) bits;
-    }
+    let shifted = one_shl c.in_ok-variables.variables 64 (omega (arith, few _ _ _ p small)) in
+    ap length c.as_slice-2.ensures.value ∙ c.in_ok-packed.ensures.count ∙ shifted ∙ sym (packed_count _ _ _ cells.wide p) ∙ ap (λ (l : List ℕ). length l / stride m.log) bits
 
 pub returns : goal.returns
 returns g c =
     let m = g.L.Level in
     let t = task_of m.means c.args.problem.now in
     let bits = c.as_slice-bits.ensures.value in
-    let small : length c.as_slice-bits.result.now ≤ 2 ^ 24 = omega (arith, c.requires, ap length bits) in
+    let small : length c.as_slice-bits.result.now ≤ 2 ^ 24 = omega (arith, c.args.problem.now.few, ap length bits) in
     let p = c.in_ok-variables.ensures.packs in
     let v = c.in_ok-variables.variables in
     let items = c.as_slice.ensures.value in

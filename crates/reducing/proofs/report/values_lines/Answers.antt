@@ -1,4 +1,4 @@
-use Rattle.std.proofs.Common.{◌≡◌, List, ◌++◌, map, length, Some, vec_items, string_bytes, Option, Vec, sym, ap, ◌∙◌, subst, arith}
+use Rattle.std.proofs.Common.{◌≡◌, List, ◌++◌, map, Some, vec_items, string_bytes, Option, Vec, sym, ap, ◌∙◌, subst}
 use Rattle.std.proofs.lemmas.List.{append-nil}
 use Rattle.std.specs.Option.{option_map}
 use Rattle.std.specs.declared.alloc.Global.{Global}
@@ -24,24 +24,10 @@ passed g c =
     let problem = c.args.problem.now in
     let t = task_of m.means problem in
     let bits = cell (vec_items problem.bits) in
-    let worked = subst (λ (xs : List g.row.L.Denot). Worked m.means m.arithmetic (map m.means xs) problem.view bits c.args.opened.now) (sym c.as_slice.ensures.value) c.requires.worked in
+    let worked = subst (λ (xs : List g.row.L.Denot). Worked m (map m.means xs) problem.view bits c.args.opened.now) (sym c.as_slice.ensures.value) c.requires.worked in
     values_passed m.arithmetic t (string_bytes c.args.out.now) (string_bytes c.opening_lines.new.out) (values_of m.means c.in_ok-opening.opening)
     (c.in_ok-opening.ensures bits (cells_binary (vec_items problem.bits)) worked ∙ ap (λ (xs : List g.row.L.Denot). values_at m.arithmetic bits (map m.means xs) problem.view) c.as_slice.ensures.value)
     c.in_ok-opening_lines.ensures
-
-pub values-requires : goal.values-requires
-values-requires g c =
-    let points = ap length c.as_slice.ensures.value in
-    let w = c.requires.worked in
-    record {
-      narrow = c.requires.narrow;
-      absorbed = omega (arith, points, c.requires.absorbed);
-      short = omega (arith, points, c.requires.short);
-      rows = omega (arith, points, c.requires.rows);
-      tensor = w.tensor_rows;
-      carry = w.carry_rows;
-      last = w.last_rows;
-    }
 
 pub returns-in-Some : goal.returns-in-Some
 returns-in-Some g c =

@@ -2,5 +2,5 @@ use Rattle.std.proofs.Common.{rules}
 use Rattle.tensor.proofs.Folds.{element_made}
 use Rattle.tensor.proofs.equality.equality_element.Goals as goal
 
-pub returns : goal.returns
-returns g c = let laws = g.met.L.Level.ring in record { rows = search (rules, element_made); scratch = search rules }
+pub returns-clause-rows : goal.returns-clause-rows
+returns-clause-rows g c = let laws = g.met.L.Level.ring in search (rules, element_made)

@@ -17,11 +17,9 @@ loop-a-preserved g c =
       made.scratch,
     )
 
-pub returns : goal.returns
-returns g c =
+pub returns-clause-rows : goal.returns-clause-rows
+returns-clause-rows g c =
     let xs = c.args.point.now in
     let ys = c.args.other.now in
-    let t = zip_end xs ys c.loop-a.yielded c.into_iter-a-iterator.result c.loop-a.a-iterator c.next.new.self _ (cc) (cc) c.loop-a.yielded_by c.in-None.is c.next.ensures.steps in record {
-      rows = factors_all _ _ _ _ _ _ (length c.loop-a.yielded) (omega (arith, c.requires.points)) c.loop-a.invariant.0;
-      scratch = search rules;
-    }
+    let t = zip_end xs ys c.loop-a.yielded c.into_iter-a-iterator.result c.loop-a.a-iterator c.next.new.self _ (cc) (cc) c.loop-a.yielded_by c.in-None.is c.next.ensures.steps in
+    factors_all _ _ _ _ _ _ (length c.loop-a.yielded) (omega (arith, c.requires.points)) c.loop-a.invariant.0

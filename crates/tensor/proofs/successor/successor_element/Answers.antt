@@ -1,10 +1,9 @@
-use Rattle.std.proofs.Common.{◌-◌, ◌++◌, [], ◌∷◌, length, reverse, arith, rules}
+use Rattle.std.proofs.Common.{◌-◌, ◌++◌, [], ◌∷◌, length, arith}
 use Rattle.std.proofs.lemmas.Iterator.{YieldsList-from_zip}
 use Rattle.std.proofs.lemmas.Iterator.Adapters.{YieldsList-from_rev_slice}
-use Rattle.std.proofs.lemmas.Iterator.Consumers.{YieldsList-turn, YieldsList-end}
-use Rattle.std.proofs.lemmas.List.{length-reverse, length_push}
-use Rattle.std.proofs.lemmas.Slice.Zip.{length-zip}
-use Rattle.tensor.proofs.Folds.{folded_none, folded_more, folded_all, from_last}
+use Rattle.std.proofs.lemmas.Iterator.Consumers.{YieldsList-turn}
+use Rattle.std.proofs.lemmas.List.{length_push}
+use Rattle.tensor.proofs.Folds.{folded_none, folded_more, from_last}
 use Rattle.tensor.proofs.successor.successor_element.Goals as goal
 
 pub loop-a-init : goal.loop-a-init
@@ -23,14 +22,3 @@ loop-a-preserved g c =
       folded_more _ _ _ _ (length xs - n) (length xs - length (c.loop-a.yielded ++ (c.in-Some.a, c.in-Some.b) ∷ [])) _ _ _ _ _ _ _ _ (omega (arith, length_push c.loop-a.yielded (c.in-Some.a, c.in-Some.b))) (omega (arith, here.0)) (omega arith) c.requires.points here.1 here.2 made.rows carried.first carried.second c.loop-a.invariant.0,
       made.scratch,
     )
-
-pub returns : goal.returns
-returns g c =
-    let xs = c.args.point.now in
-    let ys = c.args.other.now in
-    let t = YieldsList-end (YieldsList-from_zip {s = c.into_iter-a-iterator.result} (YieldsList-from_rev_slice xs (cc)) (YieldsList-from_rev_slice ys (cc))) c.loop-a.yielded c.loop-a.a-iterator c.loop-a.yielded_by _ c.next.new.self c.in-None.is c.next.ensures.steps in
-    let all = length-zip (reverse xs) (reverse ys) in
-    record {
-      rows = folded_all _ _ _ _ _ _ _ _ (omega (arith, t.1, all, length-reverse xs, length-reverse ys)) c.loop-a.invariant.0;
-      scratch = search rules;
-    }

@@ -1,4 +1,4 @@
-use Rattle.tensor_rows.proofs.Places.{Written}
+use Rattle.multilinear.proofs.Places.{Written}
 use Rattle.tensor_rows.proofs.ColumnTurns.{factored}
 use Rattle.tensor_rows.proofs.columns.add_scaled.Given as goal
 

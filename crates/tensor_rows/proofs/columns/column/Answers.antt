@@ -6,18 +6,11 @@ use Rattle.tensor_rows.proofs.columns.column.Goals as goal
 pub loop-u-init : goal.loop-u-init
 loop-u-init g c = search (rules, gathered_none)
 
-pub coordinate-requires : goal.coordinate-requires
-coordinate-requires g c =
-    let k = g.L.Level.log in
-    let place = few k c.loop-u.u c.requires.narrow (omega (arith, c.requires.rows)) in
-    let read = few k c.args.v c.requires.narrow c.requires.read in
-    omega (arith, place, read)
-
 pub with_coordinate-column-requires : goal.with_coordinate-column-requires
 with_coordinate-column-requires g c =
     let k = g.L.Level.log in
-    let place = few k c.loop-u.u c.requires.narrow (omega (arith, c.requires.rows)) in
-    let fits = gathered_fits g.L.Level.means c.args.rows.now c.args.v c.loop-u.u _ c.loop-u.invariant in
+    let place = few k c.loop-u.u c.requires.narrow (omega (arith, c.args.rows.sized)) in
+    let fits = gathered_fits g.L.Level.means c.args.rows.elements.now c.args.v c.loop-u.u _ c.loop-u.invariant in
     (place, (fits, omega (arith, c.coordinate.ensures)))
 
 pub loop-u-preserved : goal.loop-u-preserved

@@ -1,5 +1,5 @@
 use Rattle.std.proofs.Common.{◌^◌, ◌≤◌, length, arith, rules, pow_mono}
-use Rattle.tensor_rows.proofs.Places.{written_more}
+use Rattle.multilinear.proofs.Places.{written_more}
 use Rattle.tensor_rows.proofs.Transposed.{column_from, columns_all}
 use Rattle.tensor_rows.proofs.columns.columns.Goals as goal
 
@@ -9,8 +9,8 @@ loop-v-preserved g c =
     let v = c.loop-v.v in
     let narrow : 2 ^ g.L.Level.log ≤ 128 = pow_mono c.requires.narrow in
     written_more means _ _ _ v _ (omega (arith, c.loop-v.auto.out))
-    (column_from means c.args.rows.now c.row_coordinates-source.result v (length c.args.rows.now) _ _ c.requires.rows
-    (omega (arith, c.requires.rows, c.row_coordinates-source.type_inv)) c.row_coordinates-source.ensures
+    (column_from means c.args.rows.elements.now c.row_coordinates-source.result v (length c.args.out.now) _ _ c.requires.out
+    (omega (arith, c.requires.out, c.row_coordinates-source.type_inv)) c.row_coordinates-source.ensures
     c.gather.ensures c.from_coordinates.ensures)
     c.loop-v.invariant
 

@@ -7,10 +7,7 @@ pub loop-u-preserved : goal.loop-u-preserved
 loop-u-preserved g c =
     let inv = c.loop-u.invariant in
     let u = c.loop-u.u in
-    let inside = few g.L.Level.log u c.requires.narrow (omega (arith, c.requires.rows)) in (
+    let inside = few g.L.Level.log u c.requires.narrow (omega (arith, c.args.rows.sized)) in (
       length-set _ _ _ ∙ inv.0,
-      read_more g.L.Level.means _ _ u _ _ c.loop-u-test.true (omega (arith, inv.0)) c.index-rows-u.is c.coordinates.ensures inv.1,
+      read_more g.L.Level.means _ _ u _ _ c.loop-u-test.true (omega (arith, inv.0)) c.row-item.is c.coordinates.ensures inv.1,
     )
-
-pub returns : goal.returns
-returns g c = λ u h. c.loop-u.invariant.1 u (omega (arith, c.requires.rows))

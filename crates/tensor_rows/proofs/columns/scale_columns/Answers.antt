@@ -2,5 +2,5 @@ use Rattle.std.proofs.Common.{rules}
 use Rattle.tensor_rows.proofs.ColumnTurns.{columns_scaled}
 use Rattle.tensor_rows.proofs.columns.scale_columns.Goals as goal
 
-pub returns : goal.returns
-returns g c = record { rows = search (rules, columns_scaled); scratch = search rules }
+pub returns-clause-rows : goal.returns-clause-rows
+returns-clause-rows g c = search (rules, columns_scaled)

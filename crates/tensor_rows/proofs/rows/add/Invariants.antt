@@ -1,6 +1,6 @@
 use Rattle.multilinear.specs.Lent.{lent}
 use Rattle.tensor_algebra.specs.Tensor.{add}
-use Rattle.tensor_rows.proofs.Places.{Written}
+use Rattle.multilinear.proofs.Places.{Written}
 use Rattle.tensor_rows.proofs.rows.add.Given as goal
 
 abbrev pub invariant-loop-u : goal.invariant-loop-u

@@ -1,5 +1,5 @@
 use Rattle.std.proofs.Common.{◌≡◌, ◌/◌, ◌^◌}
-use Rattle.tensor_rows.proofs.Places.{Written}
+use Rattle.multilinear.proofs.Places.{Written}
 use Rattle.tensor_rows.proofs.Turns.{picked}
 use Rattle.tensor_rows.proofs.rows.add_byte.Given as goal
 

@@ -1,16 +1,7 @@
 use Rattle.std.proofs.Common.{◌+◌, ◌-◌, ◌*◌, ◌<◌, ◌≤◌, length, get_or, drop, refl, ap, ◌∙◌, length-drop, length-take, length-take-le, arith}
 use Rattle.std.proofs.lemmas.List.{get_or-take}
-use Rattle.tensor_rows.proofs.Places.{written_none}
 use Rattle.tensor_rows.proofs.Turns.{byte_fits, byte_more, bytes_all}
 use Rattle.tensor_rows.proofs.rows.add_exterior_product.Goals as goal
-
-pub loop-j-init : goal.loop-j-init
-loop-j-init g c = written_none g.L.Level.means _ c.args.rows.now
-
-pub slice_bounds-add_byte-end : goal.slice_bounds-add_byte-end
-slice_bounds-add_byte-end g c =
-    let fits = byte_fits g.L.Level.log c.loop-j.j c.requires.narrow (omega (arith, length-take c.num_bytes.result c.to_bytes-bytes.result)) in
-    omega (arith, fits.0)
 
 pub loop-j-preserved : goal.loop-j-preserved
 loop-j-preserved g c =

@@ -1,7 +1,7 @@
 use Rattle.std.proofs.Common.{◌*◌}
 use Rattle.multilinear.specs.Lent.{lent}
 use Rattle.tensor_algebra.specs.Tensor.{exterior, add}
-use Rattle.tensor_rows.proofs.Places.{Written}
+use Rattle.multilinear.proofs.Places.{Written}
 use Rattle.tensor_rows.proofs.rows.add_exterior_product.Given as goal
 
 abbrev pub invariant-loop-j : goal.invariant-loop-j

@@ -11,8 +11,8 @@ loop-row-init g c = search (rules, batched_none)
 pub loop-row-preserved : goal.loop-row-preserved
 loop-row-preserved g c =
     let m = g.L.Level in
-    let ws = c.args.weights.now in
-    let xs = c.args.rows.now in
+    let ws = c.args.weights.elements.now in
+    let xs = c.args.rows.elements.now in
     let t = zip_turn xs ws c.loop-row.yielded c.into_iter-row-iterator.result c.loop-row.row-iterator c.next.new.self _ (cc) (cc) c.loop-row.yielded_by _ c.in-Some.is c.next.ensures.steps in
     batched_more m.means m.arithmetic ws xs (length c.loop-row.yielded) _ _ _ _ t.1 t.0 (t.3 _) (t.2 _) (c.add-sum.ensures ∙ ap (plus _) c.mul.ensures) c.loop-row.invariant
     ∙ ap (batched m.means m.arithmetic ws xs) (sym (length_push c.loop-row.yielded _))
@@ -20,7 +20,7 @@ loop-row-preserved g c =
 pub returns : goal.returns
 returns g c =
     let m = g.L.Level in
-    let ws = c.args.weights.now in
-    let xs = c.args.rows.now in
+    let ws = c.args.weights.elements.now in
+    let xs = c.args.rows.elements.now in
     let t = zip_end xs ws c.loop-row.yielded c.into_iter-row-iterator.result c.loop-row.row-iterator c.next.new.self _ (cc) (cc) c.loop-row.yielded_by c.in-None.is c.next.ensures.steps in
-    batched_all m.means m.arithmetic ws xs (length c.loop-row.yielded) _ c.requires.rows (omega arith) (omega arith) c.loop-row.invariant
+    batched_all m.means m.arithmetic ws xs (length c.loop-row.yielded) _ c.args.rows.sized (omega arith) (omega arith) c.loop-row.invariant

@@ -5,4 +5,4 @@ use Rattle.tensor_rows.proofs.rows.batch_rows.Given as goal
 abbrev pub invariant-loop-row : goal.invariant-loop-row
 invariant-loop-row g l =
     let m = g.L.Level in
-    m.means l.sum ≡ batched m.means m.arithmetic l.weights l.rows (length l.yielded)
+    m.means l.sum ≡ batched m.means m.arithmetic l.weights.elements.now l.rows.elements.now (length l.yielded)

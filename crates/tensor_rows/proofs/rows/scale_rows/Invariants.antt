@@ -1,6 +1,6 @@
 use Rattle.multilinear.specs.Lent.{lent}
 use Rattle.tensor_algebra.specs.Tensor.{scale_rows}
-use Rattle.tensor_rows.proofs.Places.{Written}
+use Rattle.multilinear.proofs.Places.{Written}
 use Rattle.tensor_rows.proofs.rows.scale_rows.Given as goal
 
 abbrev pub invariant-loop-row : goal.invariant-loop-row

@@ -2,7 +2,7 @@ use Rattle.std.proofs.Common.{◌≡◌, ◌+◌, ◌-◌, ◌*◌, ◌/◌, ◌
 use prog.Memory.{size}
 use denote.Param.{layout}
 use Rattle.std.proofs.lemmas.List.{length-take}
-use Rattle.weights.proofs.Combining.{column_begins, column_carried, columns_none, columns_more, columns_all}
+use Rattle.weights.proofs.Combining.{column_begins, column_carried, columns_more}
 use Rattle.weights.proofs.combined.add_carried.Goals as goal
 
 pub offset_bounds-table-start : goal.offset_bounds-table-start
@@ -20,9 +20,6 @@ carry_column-requires g c =
     let begins = column_begins c.args.columns.row_variables c.loop-column.column n (omega (arith, ap (λ m. n / m + min 1 (n % m)) length-is)) in
     let within : c.loop-column.column * c.length-length.result < length c.loop-column.table = omega (arith, begins, ap (λ m. c.loop-column.column * m) length-is) in
     simp (length-take, length-drop) (omega (arith, pow_pos c.args.columns.row_variables))
-
-pub loop-column-init : goal.loop-column-init
-loop-column-init g c = columns_none g.L.Level.means g.L.Level.arithmetic c.args.columns.row_variables (g.L.Level.means c.args.alpha) c.args.table.now
 
 pub loop-column-preserved : goal.loop-column-preserved
 loop-column-preserved g c =
@@ -43,9 +40,3 @@ loop-column-preserved g c =
     c.carry_column.ensures.first (λ i h l. c.carry_column.ensures.carried i h (omega (arith, inside))) in
     columns_more m.means m.arithmetic c.args.columns.row_variables (m.means c.args.alpha) c.args.table.now c.loop-column.table _ c.loop-column.column start end
     start-is end-is carry c.loop-column.invariant
-
-pub returns : goal.returns
-returns g c =
-    let n = length c.args.table.now in
-    let all : n / 2 ^ c.args.columns.row_variables + min 1 (n % 2 ^ c.args.columns.row_variables) ≤ c.loop-column.column = omega (arith, ap (λ m. n / m + min 1 (n % m)) c.length-length.ensures) in
-    columns_all g.L.Level.means g.L.Level.arithmetic c.args.columns.row_variables (g.L.Level.means c.args.alpha) c.args.table.now c.loop-column.table c.loop-column.column all c.loop-column.invariant

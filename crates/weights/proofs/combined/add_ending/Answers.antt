@@ -1,26 +1,7 @@
-use Rattle.std.proofs.Common.{◌/◌, ◌^◌, ◌<◌, ◌≤◌, length, refl, subst, arith, pow_pos}
+use Rattle.std.proofs.Common.{◌/◌, ◌^◌, ◌<◌, ◌≤◌, length, subst, arith, pow_pos}
 use Rattle.folding.proofs.Folds.{column_within}
 use Rattle.weights.proofs.Combining.{ended_more, ended_all}
 use Rattle.weights.proofs.combined.add_ending.Goals as goal
-
-pub last-i-requires : goal.last-i-requires
-last-i-requires g c =
-    let len = length c.args.table.now in
-    let w = 2 ^ c.args.columns.row_variables in
-    let within = column_within c.loop-column.column w len (pow_pos c.args.columns.row_variables)
-    (subst (λ n. c.loop-column.column < len / n) c.length.ensures c.loop-column-test.true) in
-    omega (arith, within)
-
-pub bounds-table-i : goal.bounds-table-i
-bounds-table-i g c =
-    let len = length c.args.table.now in
-    let w = 2 ^ c.args.columns.row_variables in
-    let within = column_within c.loop-column.column w len (pow_pos c.args.columns.row_variables)
-    (subst (λ n. c.loop-column.column < len / n) c.length.ensures c.loop-column-test.true) in
-    omega (arith, within)
-
-pub loop-column-init : goal.loop-column-init
-loop-column-init g c = record { done = λ j h. absurd (omega arith); rest = λ j h. refl }
 
 pub loop-column-preserved : goal.loop-column-preserved
 loop-column-preserved g c =

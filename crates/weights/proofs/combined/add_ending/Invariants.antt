@@ -1,6 +1,6 @@
 use Rattle.std.proofs.Common.{◌*◌, ◌^◌}
 use Rattle.multilinear.specs.Lent.{lent}
-use Rattle.tensor_rows.proofs.Places.{Written}
+use Rattle.multilinear.proofs.Places.{Written}
 use Rattle.weights.specs.Stepped.{ended}
 use Rattle.weights.proofs.combined.add_ending.Given as goal
 

@@ -1,5 +1,5 @@
 use Rattle.std.proofs.Common.{◌<◌, length, ◌∙◌, arith, length-drop, length-take}
-use Rattle.tensor_rows.proofs.Places.{before_part, in_part}
+use Rattle.multilinear.proofs.Places.{before_part, in_part}
 use Rattle.weights.proofs.settled.settle_at.Goals as goal
 
 pub returns : goal.returns

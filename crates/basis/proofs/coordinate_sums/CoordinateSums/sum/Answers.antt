@@ -8,11 +8,6 @@ use Rattle.basis.proofs.LookedUpSums.{looked_none, looked_more, looked_all, look
 use Rattle.basis.proofs.LookedUpChunks.{table_within, tables_left, table_read, byte_within, bytes_left, byte_read, all_tables}
 use Rattle.basis.proofs.coordinate_sums.CoordinateSums.sum.Goals as goal
 
-pub offset_bounds-table-from : goal.offset_bounds-table-from
-offset_bounds-table-from g c =
-    let size = c.in-Some.ensures.steps.0.1.1 ∙ c.loop-table.invariant.size in
-    omega (arith, size)
-
 pub loop-table-init : goal.loop-table-init
 loop-table-init g c =
     record {

@@ -1,12 +1,8 @@
-use mathlib.Core.Path.{ap₂, ap, sym, ◌∙◌}
-use Rattle.doubling.specs.Doubled.{join, low, high}
+use mathlib.Core.Path.{ap, sym, ◌∙◌}
+use Rattle.doubling.specs.Doubled.{low, high}
 use Rattle.doubling.specs.Join.{low_join, high_join}
 use Rattle.doubling.proofs.doubling.DoublingLevel.equals.Goals as goal
 
-pub returns : goal.returns
-returns g c =
-    let s = c.same_halves.ensures in
-    record {
-      agree = λ t. ap₂ join (s.low t) (s.high t);
-      found = λ e. s.found (sym (low_join _ _) ∙ ap low e ∙ low_join _ _) (sym (high_join _ _) ∙ ap high e ∙ high_join _ _);
-    }
+pub returns-clause-found : goal.returns-clause-found
+returns-clause-found g c e =
+    c.same_halves.ensures.found (sym (low_join _ _) ∙ ap low e ∙ low_join _ _) (sym (high_join _ _) ∙ ap high e ∙ high_join _ _)

@@ -1,7 +1,9 @@
-use mathlib.Core.Path.{ap₂}
+use mathlib.Core.Path.{ap, ap₂, ◌∙◌}
 use Rattle.doubling.specs.Doubled.{join, doubled}
 use Rattle.doubling.proofs.doubling.DoublingLevel.generator.Goals as goal
 
 pub returns : goal.returns
 unfolding doubled
-returns g c = ap₂ join c.generator_halves.ensures.low c.generator_halves.ensures.high
+returns g c =
+    let means = g.L.Level.means in
+    ap₂ join (ap means c.new.ensures.low ∙ c.zero.ensures) (ap means c.new.ensures.high ∙ c.one.ensures)

@@ -1,12 +1,6 @@
 use Rattle.std.proofs.Common.{◌/◌, ◌%◌, ap, ◌∙◌}
-use Rattle.equality.proofs.Factoring.{within, indexed_entry}
+use Rattle.equality.proofs.Factoring.{indexed_entry}
 use Rattle.equality.proofs.factored.FactoredEquality.entry.Goals as goal
-
-pub product-requires : goal.product-requires
-product-requires g c =
-    let i = c.args.index in
-    within _ _ i _ _ c.requires (c.split_index.ensures.block ∙ ap (λ n. i / n) c.block_len.ensures)
-    (c.split_index.ensures.place ∙ ap (λ n. i % n) c.block_len.ensures)
 
 pub returns : goal.returns
 returns g c =

@@ -1,8 +1,6 @@
 use Rattle.folding.proofs.Slots.{tensor_made}
 use Rattle.folding.proofs.slot_table.SlotTable.tensor.Goals as goal
 
-pub returns : goal.returns
-returns g c = record {
-  rows = λ s p f. tensor_made g.L.Level.means g.met.L.Level.ring _ _ s p f _ _ _ _ c.clear.ensures c.new.ensures c.add_blocks.ensures;
-  scratch = c.clear-2.ensures;
-}
+pub returns-clause-rows : goal.returns-clause-rows
+returns-clause-rows g c = λ s p f.
+    tensor_made g.L.Level.means g.met.L.Level.ring _ _ s p f _ _ _ _ c.clear.ensures c.new.ensures c.add_blocks.ensures

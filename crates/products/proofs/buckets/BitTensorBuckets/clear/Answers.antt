@@ -1,11 +1,8 @@
-use Rattle.std.proofs.Common.{refl}
-use Rattle.products.proofs.Adding.{bucketed_none}
+use Rattle.products.proofs.Adding.{bucketed_none, cleared_empty}
 use Rattle.products.proofs.buckets.BitTensorBuckets.clear.Goals as goal
 
-pub returns : goal.returns
-returns g c =
-    record {
-      same = refl {a = c.args.self.now.buckets.ghost_name};
-      empty = c.empty_all.ensures;
-      bucketed = λ a b. bucketed_none a b _ c.empty_all.ensures;
-    }
+pub returns-clause-empty : goal.returns-clause-empty
+returns-clause-empty g c = cleared_empty _ c.clear.ensures
+
+pub returns-clause-bucketed : goal.returns-clause-bucketed
+returns-clause-bucketed g c a b = bucketed_none a b _ (cleared_empty _ c.clear.ensures)
