@@ -2,9 +2,9 @@
 #![tactic(auto)]
 
 use explanation::explain::explain;
-use replies::program::answer;
+use replies::program::answer_to;
 use std::io;
 
 fn main(rt: HostRuntime) -> io::Result<()> {
-    answer(&rt, explain)
+    answer_to(rt.alloc(), &mut rt.reader(), &mut io::writer(&rt), explain)
 }

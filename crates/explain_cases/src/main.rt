@@ -2,9 +2,9 @@
 #![tactic(auto)]
 
 use explanation::explain::explain;
-use replies::program::answer_cases;
+use replies::program::answer_cases_to;
 use std::io;
 
 fn main(rt: HostRuntime) -> io::Result<()> {
-    answer_cases(&rt, explain)
+    answer_cases_to(rt.alloc(), &mut rt.reader(), &mut io::writer(&rt), explain)
 }

@@ -2,9 +2,9 @@
 #![tactic(auto)]
 
 use reducing::reduce::reduce;
-use replies::program::answer;
+use replies::program::answer_to;
 use std::io;
 
 fn main(rt: HostRuntime) -> io::Result<()> {
-    answer(&rt, reduce)
+    answer_to(rt.alloc(), &mut rt.reader(), &mut io::writer(&rt), reduce)
 }

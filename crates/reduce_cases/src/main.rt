@@ -2,9 +2,9 @@
 #![tactic(auto)]
 
 use reducing::reduce::reduce;
-use replies::program::answer_cases;
+use replies::program::answer_cases_to;
 use std::io;
 
 fn main(rt: HostRuntime) -> io::Result<()> {
-    answer_cases(&rt, reduce)
+    answer_cases_to(rt.alloc(), &mut rt.reader(), &mut io::writer(&rt), reduce)
 }

@@ -34,17 +34,6 @@ where
     write_reply(heap, writer, &reply, input.as_slice())
 }
 
-// Prints the reply to what standard input holds. No clause can name that, nor what a terminal shows: `answer_to` says it of readers and
-// writers whose bytes are known.
-pub fn answer<R, F>(rt: &R, reply: F) -> io::Result<()>
-where
-    R: Input + Print + AllocGlobal,
-    F: Fn(Global, &[u8]) -> Result<String, AllocError>,
-    requires { F.IsAlwaysCallable reply }
-{
-    answer_to(rt.alloc(), &mut rt.reader(), &mut io::writer(rt), reply)
-}
-
 // The first case of a text and the text after the line `--` that ends it, where one does.
 fn split_case(text: &[u8]) -> Option<(&[u8], &[u8])>
     ensures splits { MatchOption result (cases text.now ≡ text.now ∷ []) (λ parts. cases text.now ≡ parts.0.now ∷ cases parts.1.now) }
@@ -85,16 +74,6 @@ where
         rest = after;
     }
     write_reply(heap, writer, &reply, rest)
-}
-
-// Prints the replies to the cases that standard input holds: `answer_cases_to` says it of readers and writers whose bytes are known.
-pub fn answer_cases<R, F>(rt: &R, reply: F) -> io::Result<()>
-where
-    R: Input + Print + AllocGlobal,
-    F: Fn(Global, &[u8]) -> Result<String, AllocError>,
-    requires { F.IsAlwaysCallable reply }
-{
-    answer_cases_to(rt.alloc(), &mut rt.reader(), &mut io::writer(rt), reply)
 }
 
 #[cfg(test)]
