@@ -1,50 +1,21 @@
 -- What tables of subset sums give for an element, a byte at a time.
-use Rattle.std.proofs.Common.{◌≡◌, ℕ, ◌+◌, ◌*◌, ◌/◌, ◌^◌, ◌<◌, ◌≤◌, List, length, get_or, take, sym, ap, ◌∙◌, ap₂, ⊎_elim, zero-add, add-one, arith, length-take-le, get_or-take, pow_mono}
-use Rattle.std.proofs.lemmas.Bool.{cases_lt}
-use Rattle.level.specs.Element.{Element, width, coordinate, plus, zeros}
+use Rattle.std.proofs.Common.{◌≡◌, ℕ, ◌+◌, ◌*◌, ◌^◌, ◌≤◌, List, length, get_or, take, sym, ap, ◌∙◌, ap₂, add-one, arith, length-take-le, get_or-take, pow_mono}
+use Rattle.level.specs.Element.{Element, plus, zeros}
 use Rattle.level.specs.Laws.{Arithmetic, Laws}
 use Rattle.level.specs.Bytes.{sixteen}
 use Rattle.level.proofs.Digits.{length_digits, digit_at}
-use Rattle.level.proofs.Elements.{zeros_plus}
-use Rattle.multilinear.specs.Sums.{sum, at_bit}
+use Rattle.multilinear.specs.Sums.{sum}
 use Rattle.multilinear.proofs.Sums.{sum_same}
-use Rattle.multilinear.proofs.Coordinates.{coordinate_past}
-use Rattle.multilinear.proofs.Windows.{sum_window}
 use Rattle.tensor_algebra.specs.Tensor.{subset_sum}
-use Rattle.tensor_algebra.specs.Subsets.{basis, byte, byte_sum}
+use Rattle.tensor_algebra.specs.Subsets.{basis, byte}
 use Rattle.tensor_algebra.proofs.SubsetSums.{subset_bytes, subset_times}
 use Rattle.basis.specs.Tables.{num_bytes, Tabulated, looked_up, scaled}
 use Rattle.basis.proofs.CompletedTables.{byte_same}
 
 module _ {k : ℕ} where
-  one_byte : k < 3 → num_bytes k ≡ 1
-  one_byte h = let l : k ≤ 2 = omega arith in let m : 2 ^ k ≤ 4 = pow_mono l in omega arith
-
-  whole_bytes : 3 ≤ k → num_bytes k ≡ width k / 8
-  whole_bytes h = let m : 2 ^ 3 ≤ 2 ^ k = pow_mono h in omega arith
-
-  -- less than a byte: no coordinate is set past the width
-  narrow_byte : (f : ℕ → Element k) (x : Element k) → k < 3 → byte_sum f 0 (byte x 0) ≡ subset_sum f x
-  unfolding byte_sum subset_sum at_bit
-  narrow_byte f x h =
-      let l : k ≤ 2 = omega arith in
-      let w : 2 ^ k ≤ 4 = pow_mono l in
-      let v : 2 ^ width k ≤ 16 = pow_mono w in
-      let term : ℕ → Element k = λ u. at_bit (coordinate x u) (f u) in
-      let b : byte x 0 ≡ x.number = omega (arith, x.fits) in
-      ap (byte_sum f 0) b ∙ sum_same 8 _ term (λ u _. ap (λ i. at_bit (coordinate x u) (f i)) (zero-add u))
-      ∙ sum_window 8 0 (width k) term (omega arith) (λ u _ out. ap (λ c. at_bit c (f u)) (coordinate_past x u (⊎_elim (λ z. omega arith) (λ z. omega arith) out)))
-      ∙ sum_same (width k) _ term (λ u _. ap term (zero-add u))
-
-  by_bytes : (f : ℕ → Element k) (x : Element k) → sum (num_bytes k) (λ j. byte_sum f j (byte x j)) ≡ subset_sum f x
-  unfolding sum
-  by_bytes f x =
-      let all : ℕ → Element k = λ n. sum n (λ j. byte_sum f j (byte x j)) in
-      ⊎_elim (λ h. ap all (one_byte h) ∙ zeros_plus _ ∙ narrow_byte f x h) (λ h. ap all (whole_bytes h) ∙ sym (subset_bytes f h x)) (cases_lt k 3)
-
   pub tabulated_sum : (f tables : ℕ → Element k) → Tabulated f tables → (x : Element k) → looked_up tables x ≡ subset_sum f x
   unfolding looked_up
-  tabulated_sum f tables t x = sum_same (num_bytes k) _ _ (λ j h. t.entry j (byte x j) h (omega arith)) ∙ by_bytes f x
+  tabulated_sum f tables t x = sum_same (num_bytes k) _ _ (λ j h. t.entry j (byte x j) h (omega arith)) ∙ sym (subset_bytes f x)
 
   -- a loop that looks up the bytes one by one
   module _ (tables : ℕ → Element k) (bytes : List ℕ) where

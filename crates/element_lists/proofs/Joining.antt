@@ -18,7 +18,7 @@ unfoldable pub ended : List (List ℕ) → List ℕ
 ended [] = []
 ended (t ∷ ts) = t ++ (32 ∷ ended ts)
 
-joined_ended : (t : List ℕ) (ts : List (List ℕ)) → joined (t ∷ ts) ++ (32 ∷ []) ≡ ended (t ∷ ts)
+pub joined_ended : (t : List ℕ) (ts : List (List ℕ)) → joined (t ∷ ts) ++ (32 ∷ []) ≡ ended (t ∷ ts)
 unfolding joined ended
 joined_ended t [] = refl
 joined_ended t (u ∷ ts) = append_assoc t (32 ∷ joined (u ∷ ts)) (32 ∷ []) ∙ ap (λ r. t ++ (32 ∷ r)) (joined_ended u ts)
@@ -157,7 +157,7 @@ module _ (n : ℕ) where
               let q : length ts ≤ i = omega arith in
               absurd (omega (arith, bad.0, mul-le-mul_right (n + 1) q, length_ended ts a, ap length whole, length_push text 32))
 
-writes_length : {k : ℕ} {t : List ℕ} {x : Element k} → Writes t x → length t ≡ digits_of k
+pub writes_length : {k : ℕ} {t : List ℕ} {x : Element k} → Writes t x → length t ≡ digits_of k
 writes_length w = ap length w.text_is ∙ length_hex w.bytes ∙ ap (λ m. 2 * m) w.count
 
 pub each_lengths : {k : ℕ} (ts : List (List ℕ)) (xs : List (Element k)) → EachWrites ts xs → AllByRecursion (λ t. length t ≡ digits_of k) ts

@@ -1,2 +1,3 @@
-mod Hexadecimal
-mod Joining
+pub mod Determined
+pub mod Hexadecimal
+pub mod Joining

@@ -18,3 +18,7 @@ BadBytes text Memory = Unit {0}
 -- a refusal, other than for want of memory, is of a text that writes no bytes
 abbrev pub RefusedWriteNoBytes : Type 0
 RefusedWriteNoBytes = (text bytes : List ℕ) (f : BytesFault) → f ≢ Memory → BadBytes text f → BytesOf text bytes → ⊥
+
+-- a text writes at most one list of bytes
+abbrev pub BytesDetermined : Type 0
+BytesDetermined = (text bs cs : List ℕ) → BytesOf text bs → BytesOf text cs → bs ≡ cs

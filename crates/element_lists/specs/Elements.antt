@@ -52,3 +52,7 @@ BadElements k text Memory = Unit {0}
 -- a refusal, other than for want of memory, is of a text that writes no elements
 abbrev pub RefusedWriteNoElements : Type 0
 RefusedWriteNoElements = (k : ℕ) (text : List ℕ) (xs : List (Element k)) (f : ElementsFault) → f ≢ Memory → BadElements k text f → ElementsOf text xs → ⊥
+
+-- a text writes at most one list of elements
+abbrev pub ElementsDetermined : Type 0
+ElementsDetermined = (k : ℕ) (text : List ℕ) (xs ys : List (Element k)) → ElementsOf text xs → ElementsOf text ys → xs ≡ ys

@@ -1,5 +1,5 @@
 ghost use Rattle.std.specs.Prelude.{◌≡◌, MatchResult};
-ghost use Rattle.element_lists.specs.Bytes.{BytesOf, BadBytes, RefusedWriteNoBytes};
+ghost use Rattle.element_lists.specs.Bytes.{BytesOf, BadBytes, RefusedWriteNoBytes, BytesDetermined};
 ghost use Rattle.element_lists.specs.declared.bytes.BytesFault.TheVariants.{Memory};
 
 use element_text::element::parse_byte;
@@ -45,4 +45,9 @@ pub fn parse_hex_bytes(heap: Global, text: &[u8]) -> Result<Vec<u8>, BytesFault>
 // A text that is refused, other than for want of memory, writes no bytes.
 pub fn byte_refusals_stand()
     ensures { RefusedWriteNoBytes }
+{}
+
+// A text writes at most one list of bytes.
+pub fn bytes_are_determined()
+    ensures { BytesDetermined }
 {}

@@ -1,6 +1,6 @@
 ghost use Rattle.std.specs.Prelude.{◌≡◌, ◌+◌, ◌*◌, ◌<◌, ◌≤◌, map, length, take, drop, MatchResult, slice_index};
 ghost use Rattle.element_text.specs.Hex.{Writes};
-ghost use Rattle.element_lists.specs.Elements.{ElementsOf, digits_of, BadElement, BadElements, RefusedWriteNoElements};
+ghost use Rattle.element_lists.specs.Elements.{ElementsOf, digits_of, BadElement, BadElements, RefusedWriteNoElements, ElementsDetermined};
 ghost use Rattle.element_lists.specs.declared.elements.ElementsFault.TheVariants.{Memory};
 
 use element_text::element::{byte_count, parse_digits};
@@ -63,4 +63,9 @@ pub fn parse_elements<L: Level>(heap: Global, text: &[u8]) -> Result<Vec<L>, Ele
 // A text that is refused, other than for want of memory, writes no elements.
 pub fn element_refusals_stand()
     ensures { RefusedWriteNoElements }
+{}
+
+// A text writes at most one list of elements.
+pub fn elements_are_determined()
+    ensures { ElementsDetermined }
 {}

@@ -1,5 +1,6 @@
 mod Prefixes
 mod Splitting
 mod Collecting
-mod Refusing
+pub mod Refusing
 mod Determined
+pub mod Saying

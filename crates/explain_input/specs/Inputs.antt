@@ -81,3 +81,7 @@ BadInput text fault.Memory = Unit {0}
 -- a refusal, other than for want of memory, is of an input that says nothing
 abbrev pub RefusedSayNothing : Type 0
 RefusedSayNothing = (text : List ℕ) (f : InputFault) (parts : Parts) → f ≢ fault.Memory → BadInput text f → Says text parts → ⊥
+
+-- a text gives its parts in one way
+abbrev pub PartsDetermined : Type 0
+PartsDetermined = (text : List ℕ) (p q : Parts) → Says text p → Says text q → p ≡ q

@@ -1,5 +1,5 @@
 ghost use Rattle.std.specs.Prelude.{◌≡◌, true, [], ◌∷◌, MatchResult};
-ghost use Rattle.explain_input.specs.Inputs.{parts_of, Says, BadInput, Optional, needed, single, RefusedSayNothing};
+ghost use Rattle.explain_input.specs.Inputs.{parts_of, Says, BadInput, Optional, needed, single, RefusedSayNothing, PartsDetermined};
 ghost use Rattle.explain_input.specs.Keys.{lines, texts};
 ghost use Rattle.explain_input.specs.Values.{Number, Letter};
 ghost use Rattle.level_name.specs.Names.{letter_of};
@@ -100,6 +100,11 @@ pub fn read_input<'a>(heap: Global, text: &'a [u8]) -> Result<Input<'a>, InputFa
 // An input that is refused, other than for want of memory, says nothing.
 pub fn refusals_stand()
     ensures { RefusedSayNothing }
+{}
+
+// An input says one thing.
+pub fn parts_are_determined()
+    ensures { PartsDetermined }
 {}
 
 #[cfg(test)]

@@ -53,10 +53,7 @@ module _ {k : ℕ} {A : Arithmetic k} (laws : Laws A) where
       → tensor (n * m) e t u ≡ sum n (λ b. scale_columns A (outer b) (block m inner t b) u)
   unfolding tensor block
   tensor_blocks n m e outer inner t f u =
-      sum_rows n m (λ w. exterior (e w) (t w) u)
-      ∙ sum_same n _ _ (λ b hb.
-      sum_same m _ _ (λ j hj. ap (λ x. exterior x (t (b * m + j)) u) (f b j hb hj))
-      ∙ columns_are_scaled.of_blocks laws (outer b) m inner (λ j. t (b * m + j)) u)
+      columns_are_scaled.of_tables laws n m e outer inner t f u
 
   -- a block's share of the carry: the first element of the block against the entry before the block, unless it starts a column,
   -- and the others against the shifted inner factor

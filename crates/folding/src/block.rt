@@ -11,7 +11,7 @@ use coordinates::per_coordinate::PerCoordinate;
 use coordinates::{whole_bytes, width};
 use level::level::Level;
 use products::factors::LeftFactors;
-use tensor_rows::columns::add_scaled_columns;
+use tensor::bit_tensor::BitTensor;
 
 // How many elements of scratch a fold takes: 256 buckets for each byte of an element, and the rows of one block's sum.
 pub fn scratch_len<L: Level>() -> usize
@@ -38,7 +38,8 @@ fn add_block<L: Level>(
 {
     let (buckets, sum) = scratch.split_at_mut(256 * whole_bytes::<L>());
     left.sum(right, buckets, sum);
-    add_scaled_columns(rows, PerCoordinate { elements: sum }, weight);
+    let mut tensor = BitTensor { rows };
+    tensor.add_scaled_columns(PerCoordinate { elements: sum }, weight);
 }
 
 // The elements of block b, of `len` elements to a block.

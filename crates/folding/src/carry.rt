@@ -14,9 +14,24 @@ use columns::Columns;
 use level::level::Level;
 use products::factors::LeftFactors;
 use products::shifting::shifted;
-use tensor_rows::rows::{add_exterior_product, clear};
+use tensor::bit_tensor::BitTensor;
+use tensor_rows::rows::clear;
 
 impl<'a, L: Level> SlotTable<'a, L> {
+    // Adds the first element of block b beside the entry before the block.
+    fn add_first(&self, rows: &mut [L], b: usize)
+        requires narrow { L.Level.log ≤ 7 }
+        requires later { 0 < b }
+        requires place { b < length self.now.equality.outer.now }
+        requires filled { 0 < length self.now.equality.inner.now }
+        requires rows { length rows.old ≡ width L.Level.log }
+        ensures { (s : Element L.Level.log) (p : Point L.Level.log) → Factors L.means L.arithmetic s p self.now.equality.outer.now self.now.equality.inner.now → lent L.means rows.new ≡ add (lent L.means rows.old) (exterior (entry L.arithmetic s p (b * length self.now.equality.inner.now - 1)) (lent L.means self.now.values.now (b * length self.now.equality.inner.now))) }
+    {
+        let first = b * self.equality.block_len();
+        let mut tensor = BitTensor { rows };
+        tensor.add_exterior_product(self.equality.before_block(b), self.values[first]);
+    }
+
     // Adds the first element of block b beside the entry before the block, unless that element starts a column.
     fn add_entering(&self, rows: &mut [L], columns: Columns, b: usize)
         requires narrow { L.Level.log ≤ 7 }
@@ -24,9 +39,8 @@ impl<'a, L: Level> SlotTable<'a, L> {
         requires rows { length rows.old ≡ width L.Level.log }
         ensures { (s : Element L.Level.log) (p : Point L.Level.log) → Factors L.means L.arithmetic s p self.now.equality.outer.now self.now.equality.inner.now → lent L.means rows.new ≡ add (lent L.means rows.old) (entering columns.row_variables (length self.now.equality.inner.now) (entry L.arithmetic s p) (lent L.means self.now.values.now) b) }
     {
-        let first = b * self.equality.block_len();
-        if !columns.starts(first) {
-            add_exterior_product(rows, self.equality.before_block(b), self.values[first]);
+        if !columns.starts(b * self.equality.block_len()) {
+            self.add_first(rows, b);
         }
     }
 

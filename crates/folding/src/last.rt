@@ -9,7 +9,8 @@ ghost use Rattle.equality.specs.Tables.{Factors};
 use crate::slot_table::SlotTable;
 use columns::Columns;
 use level::level::Level;
-use tensor_rows::rows::{add_exterior_product, clear};
+use tensor::bit_tensor::BitTensor;
+use tensor_rows::rows::clear;
 
 impl<'a, L: Level> SlotTable<'a, L> {
     // Adds e(w) ⊗ values[w], with e the equality table that the factors hold.
@@ -19,7 +20,8 @@ impl<'a, L: Level> SlotTable<'a, L> {
         requires rows { length rows.old ≡ width L.Level.log }
         ensures { (s : Element L.Level.log) (p : Point L.Level.log) → Factors L.means L.arithmetic s p self.now.equality.outer.now self.now.equality.inner.now → lent L.means rows.new ≡ add (lent L.means rows.old) (exterior (entry L.arithmetic s p w) (lent L.means self.now.values.now w)) }
     {
-        add_exterior_product(rows, self.equality.entry(w), self.values[w]);
+        let mut tensor = BitTensor { rows };
+        tensor.add_exterior_product(self.equality.entry(w), self.values[w]);
     }
 
     // Makes the rows those of the last of the slot: the sum of e(w) ⊗ values[w] over the w that end a column, with e the equality

@@ -1,5 +1,5 @@
-// Tensors of a slot folded block by block: the equality table is held in two factors, each block is summed against what all blocks share,
-// and the block's own weight scales the columns of that sum once. `tensor` folds the tensor, `carry` and `last` the successor tensors.
+// Tensors of a slot. The tensor and the carry are folded block by block: the equality table is held in two factors, each block is summed
+// against what all blocks share, and the block's own weight scales the columns of that sum once. The last has one term for each column.
 // A slice that is written keeps a clause on its length: a struct over it would owe, in each function that writes, a clause that it is still
 // the same slice.
 #![tactic(auto)]
@@ -9,4 +9,4 @@ pub mod carry;
 pub mod last;
 pub mod opening;
 pub mod slot_table;
-pub mod tensor;
+pub mod tensor_fold;

@@ -6,6 +6,8 @@ use Rattle.element_text.specs.Hex.{byte_count}
 use Rattle.multilinear.specs.Equality.{Point}
 use Rattle.element_lists.specs.Bytes.{BytesOf, BadBytes}
 use Rattle.element_lists.specs.Elements.{ElementsOf, BadElements}
+use Rattle.element_lists.specs.declared.bytes.BytesFault.TheVariants as bytes
+use Rattle.element_lists.specs.declared.elements.ElementsFault.TheVariants as elements
 use Rattle.explain_input.specs.Inputs.{Parts}
 use Rattle.explain_input.specs.declared.key.Key.{Key}
 use Rattle.explain_input.specs.declared.key.Key.TheVariants as key
@@ -63,12 +65,22 @@ texts_of parts key.Batching = option_to_list parts.batching
 texts_of parts key.Challenge = option_to_list parts.challenge
 texts_of parts key.Closing = parts.closings
 
+-- the keys whose texts write elements
+abbrev pub of_elements : Key → Bool
+of_elements key.Level = false
+of_elements key.Bits = false
+of_elements key.Point = true
+of_elements key.View = false
+of_elements key.Batching = true
+of_elements key.Challenge = true
+of_elements key.Closing = true
+
 -- why a text of a key is refused
 abbrev pub BadText : ℕ → Key → List ℕ → ProblemFault → Type 0
 BadText k at text NoBatching = ⊥
 BadText k at text (Bits f) = (at ≡ key.Bits) × BadBytes text f
 BadText k at text TooLarge = (at ≡ key.Bits) × ((bytes : List ℕ) × BytesOf text bytes × (most_bytes k < length bytes))
-BadText k at text (Elements by f) = (at ≡ by) × BadElements k text f
+BadText k at text (Elements by f) = (at ≡ by) × (of_elements by ≡ true) × BadElements k text f
 BadText k at text Challenge = (at ≡ key.Challenge) × ((xs : Point k) × ElementsOf text xs × (length xs ≢ 1))
 BadText k at text Memory = Unit {0}
 
@@ -80,3 +92,24 @@ BadAmong k at ts f = (i : ℕ) × (i < length ts) × BadText k at (slice_index_o
 abbrev pub BadProblem : ℕ → Parts → ProblemFault → Type 0
 BadProblem k parts f =
     ((f ≡ NoBatching) × (unbatched parts ≡ true)) ⊎ ((at : Key) × BadAmong k at (texts_of parts at) f)
+
+-- a fault is a want of memory, and so says nothing of the input
+abbrev pub wants_memory : ProblemFault → Bool
+wants_memory NoBatching = false
+wants_memory (Bits bytes.Odd) = false
+wants_memory (Bits (bytes.Digit place)) = false
+wants_memory (Bits bytes.Memory) = true
+wants_memory TooLarge = false
+wants_memory (Elements by (elements.Shape digits)) = false
+wants_memory (Elements by (elements.Digit place)) = false
+wants_memory (Elements by elements.Memory) = true
+wants_memory Challenge = false
+wants_memory Memory = true
+
+-- a refusal, other than for want of memory, is of parts that ask for nothing
+abbrev pub RefusedAskNothing : Type 0
+RefusedAskNothing = (k : ℕ) (parts : Parts) (f : ProblemFault) (t : Task k) → wants_memory f ≡ false → BadProblem k parts f → Asks parts t → ⊥
+
+-- parts ask for one thing at most
+abbrev pub TaskDetermined : Type 0
+TaskDetermined = (k : ℕ) (parts : Parts) (t u : Task k) → Asks parts t → Asks parts u → t ≡ u

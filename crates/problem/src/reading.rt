@@ -1,9 +1,9 @@
-ghost use Rattle.std.specs.Prelude.{◌≡◌, ◌≤◌, Some, [], ◌∷◌, map, length, MatchResult};
+ghost use Rattle.std.specs.Prelude.{◌≡◌, ◌≤◌, true, Some, [], ◌∷◌, map, length, MatchResult};
 ghost use Rattle.element_lists.specs.Bytes.{BytesOf};
 ghost use Rattle.element_lists.specs.Elements.{ElementsOf};
 ghost use Rattle.explain_input.specs.Inputs.{parts_of};
 ghost use Rattle.explain_input.specs.declared.key.Key.TheVariants as named;
-ghost use Rattle.problem.specs.Reading.{most_bytes, OptionalPoint, OptionalElement, EachPoint, unbatched, Asks, BadText, BadAmong, BadProblem};
+ghost use Rattle.problem.specs.Reading.{most_bytes, OptionalPoint, OptionalElement, EachPoint, unbatched, of_elements, wants_memory, Asks, BadText, BadAmong, BadProblem, RefusedAskNothing, TaskDetermined};
 ghost use Rattle.problem.specs.Task.{task_of};
 ghost use Rattle.problem.specs.declared.reading.ProblemFault.TheVariants.{Bits, Memory};
 ghost use Rattle.problem.specs.Messages.{problem_message};
@@ -36,6 +36,25 @@ pub enum ProblemFault {
     Challenge,
     // There was no memory for the closing points.
     Memory,
+}
+
+impl ProblemFault {
+    // Whether there was no memory to read the input, so that the fault says nothing of it.
+    pub fn wants_memory(self) -> bool
+        ensures { result ≡ wants_memory self }
+    {
+        matches!(
+            self,
+            ProblemFault::Memory
+                | ProblemFault::Bits {
+                    fault: BytesFault::Memory
+                }
+                | ProblemFault::Elements {
+                    fault: ElementsFault::Memory,
+                    ..
+                }
+        )
+    }
 }
 
 impl fmt::Display for ProblemFault {
@@ -91,6 +110,7 @@ fn read_bits<L: Level>(heap: Global, text: &[u8]) -> Result<Vec<u8>, ProblemFaul
 
 // The elements that a text of a key writes.
 fn read_elements<L: Level>(heap: Global, key: Key, text: &[u8]) -> Result<Vec<L>, ProblemFault>
+    requires { of_elements key ≡ true }
     ensures { MatchResult result (λ v. ElementsOf text.now (map L.means v.items)) (BadText L.Level.log key text.now) }
 {
     parse_elements(heap, text).map_err(|fault| ProblemFault::Elements { key, fault })
@@ -170,3 +190,13 @@ pub fn read_problem<L: Level>(heap: Global, input: &Input) -> Result<Problem<L>,
         closings,
     })
 }
+
+// An input that is refused, other than for want of memory, asks for nothing.
+pub fn refusals_stand()
+    ensures { RefusedAskNothing }
+{}
+
+// An input asks for one thing at most.
+pub fn task_is_determined()
+    ensures { TaskDetermined }
+{}

@@ -1,3 +1,5 @@
 pub mod Shapes
 pub mod Answering
 pub mod Endings
+pub mod Only
+pub mod Blame

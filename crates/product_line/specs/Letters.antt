@@ -38,9 +38,17 @@ fault_text (Shape digits) = codes "the letter is not followed by a space and " +
 fault_text (Digit place) = codes "character " ++ (decimal place ++ codes " is no lower-case hexadecimal digit")
 fault_text Memory = codes "no memory for the answer"
 
--- the reply to a line: its answer, or `error: ` and why there is none
+-- the reply to a line: its answer, or `error: ` and what is wrong with it; a want of memory is no reply
 abbrev pub Reply : List ℕ → List ℕ → Type 0
-Reply line reply = Answer line reply ⊎ ((fault : LineFault) × BadLine line fault × (reply ≡ codes "error: " ++ fault_text fault))
+Reply line reply = Answer line reply ⊎ ((fault : LineFault) × (fault ≢ Memory) × BadLine line fault × (reply ≡ codes "error: " ++ fault_text fault))
+
+-- a line that has an answer has no reply but an answer
+abbrev pub OnlyAnAnswer : Type 0
+OnlyAnAnswer = (line answer reply : List ℕ) → Answer line answer → Reply line reply → Answer line reply
+
+-- no reply begins with these words
+abbrev pub NoneBlamesMemory : Type 0
+NoneBlamesMemory = (line rest : List ℕ) → Reply line (codes "error: no memory" ++ rest) → ⊥
 
 -- a line without the newline, byte 10, that may end it
 abbrev pub Stripped : List ℕ → List ℕ → Type 0

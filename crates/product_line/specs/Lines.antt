@@ -1,5 +1,5 @@
 -- A line that asks for a product: a level's letter, a space, an element's text, a space, an element's text.
-use Rattle.std.specs.Prelude.{◌≡◌, ℕ, ◌+◌, ◌*◌, ◌<◌, Bool, ◌&&◌, List, ◌∷◌, ◌++◌, length, ◌==◌, slice_index}
+use Rattle.std.specs.Prelude.{◌≡◌, ℕ, ◌+◌, ◌*◌, ◌<◌, Bool, ◌&&◌, List, ◌∷◌, ◌++◌, length, ◌==◌, ◌≢◌, slice_index}
 use Rattle.level.specs.Element.{Element}
 use Rattle.level.specs.Laws.{Arithmetic}
 use Rattle.element_text.specs.Hex.{Writes, element_text, byte_count, NoDigit}
@@ -27,24 +27,26 @@ pub record Product {k : ℕ} (A : Arithmetic k) (rest answer : List ℕ) : Type 
   pub right_writes : Writes right y
   pub answer_is : answer ≡ element_text (A.times x y)
 
--- the character at a place of the line, counted from 1 at the letter, is no digit
-pub record NoDigitAt (rest : List ℕ) (place : ℕ) : Type 0 where
+-- the character at a place of the line, counted from 1 at the letter, is none of the two spaces, and no digit
+pub record NoDigitAt (digits : ℕ) (rest : List ℕ) (place : ℕ) : Type 0 where
   pub at : ℕ
   pub place_is : place ≡ at + 2
   pub inside : at < length rest
+  pub first_space : at ≢ 0
+  pub second_space : at ≢ digits + 1
   pub no_digit : NoDigit (slice_index rest at)
 
--- a rest of the right shape is refused for a character
-abbrev pub BadOperand : List ℕ → LineFault → Type 0
-BadOperand rest Letter = ⊥
-BadOperand rest (Shape digits) = ⊥
-BadOperand rest (Digit place) = NoDigitAt rest place
-BadOperand rest Memory = ⊥
+-- a rest of the right shape, with that many digits for each element, is refused for a character
+abbrev pub BadOperand : ℕ → List ℕ → LineFault → Type 0
+BadOperand digits rest Letter = ⊥
+BadOperand digits rest (Shape n) = ⊥
+BadOperand digits rest (Digit place) = NoDigitAt digits rest place
+BadOperand digits rest Memory = ⊥
 
 -- Why the rest of a line is refused: it has not the shape, with that many digits for each element; or a character of it is no
 -- digit; or there was no memory for the answer.
 abbrev pub BadRest : ℕ → List ℕ → LineFault → Type 0
 BadRest k rest Letter = ⊥
 BadRest k rest (Shape digits) = (digits ≡ 2 * byte_count k) × ((left right : List ℕ) → Operands digits rest left right → ⊥)
-BadRest k rest (Digit place) = NoDigitAt rest place
+BadRest k rest (Digit place) = NoDigitAt (2 * byte_count k) rest place
 BadRest k rest Memory = Unit {0}

@@ -1,5 +1,5 @@
 ghost use Rattle.std.specs.Prelude.{◌≡◌, ◌++◌, IfOk, string_bytes, codes, MatchResult};
-ghost use Rattle.product_line.specs.Letters.{Answer, BadLine, Reply, fault_text, Stripped};
+ghost use Rattle.product_line.specs.Letters.{Answer, BadLine, Reply, OnlyAnAnswer, NoneBlamesMemory, fault_text, Stripped};
 
 use crate::line::{LineFault, product};
 use byte_levels::polynomial_byte::PolynomialByte;
@@ -32,12 +32,27 @@ pub fn fault_text(heap: Global, fault: LineFault) -> Result<String, AllocError>
     format!(in heap; "error: {fault}")
 }
 
-// The reply to a line: the text of the product, or `error: ` and why there is none.
+// The reply to a line: the text of the product, or `error: ` and what is wrong with the line. A want of memory is an error of the call, and
+// no reply.
 pub fn reply(heap: Global, line: &[u8]) -> Result<String, AllocError>
     ensures { IfOk result (λ s. Reply line.now (string_bytes s)) }
 {
-    product_line(heap, line).or_else(|fault| fault_text(heap, fault))
+    match product_line(heap, line) {
+        Ok(answer) => Ok(answer),
+        Err(LineFault::Memory) => Err(AllocError),
+        Err(fault) => fault_text(heap, fault),
+    }
 }
+
+// A line that has an answer has no reply but an answer.
+pub fn only_an_answer()
+    ensures { OnlyAnAnswer }
+{}
+
+// No reply tells of a want of memory.
+pub fn none_blames_memory()
+    ensures { NoneBlamesMemory }
+{}
 
 // A line without the newline that ended it.
 pub fn without_newline(line: &[u8]) -> &[u8]

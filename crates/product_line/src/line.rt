@@ -1,4 +1,4 @@
-ghost use Rattle.std.specs.Prelude.{◌≡◌, ℕ, Some, ◌+◌, ◌*◌, ◌<◌, ◌≤◌, length, take, drop, string_bytes, MatchResult};
+ghost use Rattle.std.specs.Prelude.{◌≡◌, ℕ, Some, ◌+◌, ◌*◌, ◌<◌, ◌≤◌, ◌⊎◌, length, take, drop, string_bytes, MatchResult};
 ghost use Rattle.element_text.specs.Hex.{Writes, byte_count};
 ghost use Rattle.product_line.specs.declared.line.LineFault.TheVariants.{Letter, Memory};
 ghost use Rattle.product_line.specs.Letters.{fault_text};
@@ -77,8 +77,9 @@ fn place(from: usize, at: usize) -> usize
 // The element whose text stands at `from` in what follows the letter. The whole text and a place, since a fault is told by its place in the
 // line.
 fn operand<L: Level>(rest: &[u8], from: usize, digits: usize) -> Result<L, LineFault>
-    requires { (digits ≡ 2 * byte_count L.Level.log) × ((from + digits ≤ length rest.now) × (length rest.now ≤ 66)) }
-    ensures { MatchResult result (λ x. Writes (take digits (drop from rest.now)) (L.means x)) (BadOperand rest.now) }
+    requires fits { (digits ≡ 2 * byte_count L.Level.log) × ((from + digits ≤ length rest.now) × (length rest.now ≤ 66)) }
+    requires start { (from ≡ 1) ⊎ (from ≡ digits + 2) }
+    ensures { MatchResult result (λ x. Writes (take digits (drop from rest.now)) (L.means x)) (BadOperand digits rest.now) }
 {
     parse_digits(&rest[from..from + digits]).map_err(|fault| LineFault::Digit {
         place: place(from, fault.at),

@@ -1,10 +1,11 @@
 ghost use Rattle.std.specs.Prelude.{◌≡◌, ℕ, ◌+◌, ◌*◌, ◌≤◌, length};
 ghost use Rattle.level.specs.Element.{Element, width};
 ghost use Rattle.multilinear.specs.Lent.{lent};
+ghost use Rattle.tensor_algebra.specs.Buckets.{bucket};
 ghost use Rattle.products.specs.Buckets.{bytes, Empty, Added, Bucketed, Summed};
-ghost use Rattle.products.specs.Halves.{of_byte, AllHalved};
+ghost use Rattle.products.specs.Halves.{AllHalved};
 
-use crate::gathering::add_term;
+use crate::gathering::{add_term, add_terms};
 use crate::reading::read_rows;
 use level::level::Level;
 use tensor_rows::rows::clear;
@@ -13,12 +14,10 @@ use tensor_rows::rows::clear;
 //
 // Row u of a sum of a(w) ⊗ b(w) takes b(w) for each w with coordinate u of a(w) set: half of the rows on average. Gathered by whole
 // bytes, a term is added once for each byte, and a row is the sum of the buckets whose value has its bit set.
-//
-// The methods name the functions over slices, which `LeftFactors` calls on a part of its scratch.
 #[derive(Drop)]
 pub struct BitTensorBuckets<'a, L> {
     // 256 buckets for each byte, those of byte j from 256·j on
-    buckets: &'a mut [L],
+    pub buckets: &'a mut [L],
 }
 
 impl<'a, L: Level> BitTensorBuckets<'a, L> {
@@ -33,6 +32,7 @@ impl<'a, L: Level> BitTensorBuckets<'a, L> {
     // Forgets every term.
     pub fn clear(&mut self)
         ensures same { self.new.buckets.ghost_name ≡ self.old.buckets.ghost_name }
+        ensures len { length self.new.buckets.now ≡ length self.old.buckets.now }
         ensures empty { Empty (lent L.means self.new.buckets.now) }
         ensures bucketed { (a b : ℕ → Element L.Level.log) → Bucketed a b 0 (lent L.means self.new.buckets.now) }
     {
@@ -45,10 +45,24 @@ impl<'a, L: Level> BitTensorBuckets<'a, L> {
         requires narrow { L.Level.log ≤ 7 }
         requires buckets { length self.old.buckets.now ≡ 256 * bytes L.Level.log }
         ensures same { self.new.buckets.ghost_name ≡ self.old.buckets.ghost_name }
+        ensures len { length self.new.buckets.now ≡ length self.old.buckets.now }
         ensures added { Added (L.means a) (L.means b) (lent L.means self.old.buckets.now) (lent L.means self.new.buckets.now) }
         ensures bucketed { (e f : ℕ → Element L.Level.log) (n : ℕ) → e n ≡ L.means a → f n ≡ L.means b → Bucketed e f n (lent L.means self.old.buckets.now) → Bucketed e f (n + 1) (lent L.means self.new.buckets.now) }
     {
         add_term(self.buckets, a, b);
+    }
+
+    // Adds every term left[w] ⊗ right[w] to empty buckets.
+    pub fn add_exterior_products(&mut self, left: &[L], right: &[L])
+        requires narrow { L.Level.log ≤ 7 }
+        requires buckets { length self.old.buckets.now ≡ 256 * bytes L.Level.log }
+        requires empty { Empty (lent L.means self.old.buckets.now) }
+        requires terms { length right.now ≡ length left.now }
+        ensures same { self.new.buckets.ghost_name ≡ self.old.buckets.ghost_name }
+        ensures len { length self.new.buckets.now ≡ length self.old.buckets.now }
+        ensures bucketed { Bucketed (lent L.means left.now) (lent L.means right.now) (length left.now) (lent L.means self.new.buckets.now) }
+    {
+        add_terms(self.buckets, left, right);
     }
 
     // Reads the sum out into rows, with 510 additions for each byte. The buckets are left halved: clear them before the next sum.
@@ -58,8 +72,9 @@ impl<'a, L: Level> BitTensorBuckets<'a, L> {
         requires buckets { length self.old.buckets.now ≡ 256 * bytes L.Level.log }
         requires rows { length rows.old ≡ width L.Level.log }
         ensures same { self.new.buckets.ghost_name ≡ self.old.buckets.ghost_name }
+        ensures len { length self.new.buckets.now ≡ length self.old.buckets.now }
         ensures rows { (a b : ℕ → Element L.Level.log) (n : ℕ) → Bucketed a b n (lent L.means self.old.buckets.now) → Summed a b n (lent L.means rows.new) }
-        ensures buckets { AllHalved (λ j. of_byte j (lent L.means self.old.buckets.now)) (lent L.means self.new.buckets.now) }
+        ensures buckets { (a b : ℕ → Element L.Level.log) (n : ℕ) → Bucketed a b n (lent L.means self.old.buckets.now) → AllHalved (bucket a b n) (lent L.means self.new.buckets.now) }
     {
         read_rows(self.buckets, rows);
     }

@@ -5,10 +5,8 @@ ghost use Rattle.tensor_algebra.specs.Buckets.{bucket};
 ghost use Rattle.products.specs.Buckets.{bytes, Summed};
 ghost use Rattle.products.specs.Halves.{AllHalved};
 
-use crate::gathering::add_terms;
-use crate::reading::read_rows;
+use crate::buckets::BitTensorBuckets;
 use level::level::Level;
-use tensor_rows::rows::clear;
 
 // Sums left[w] ⊗ right[w] into rows, by way of the buckets.
 fn sum_terms<L: Level>(left: &[L], right: &[L], buckets: &mut [L], rows: &mut [L])
@@ -20,9 +18,10 @@ fn sum_terms<L: Level>(left: &[L], right: &[L], buckets: &mut [L], rows: &mut [L
     ensures rows { Summed (lent L.means left.now) (lent L.means right.now) (length left.now) (lent L.means rows.new) }
     ensures buckets { AllHalved (bucket (lent L.means left.now) (lent L.means right.now) (length left.now)) (lent L.means buckets.new) }
 {
-    clear(buckets);
-    add_terms(buckets, left, right);
-    read_rows(buckets, rows);
+    let mut sums = BitTensorBuckets { buckets };
+    sums.clear();
+    sums.add_exterior_products(left, right);
+    sums.tensor(rows);
 }
 
 // Left factors that are read against many blocks of right factors, each block summed on its own.

@@ -1,4 +1,4 @@
-// The words for each fault.
+// The words for each fault: those of p3-sumcheck 0.8.0 for each that it has.
 ghost use Rattle.std.specs.Prelude.{Some};
 ghost use Rattle.refusals.specs.Words.{packing_words, ring_switch_words, refusal_words};
 
@@ -11,11 +11,18 @@ impl fmt::Display for BitPackingError {
 
     fn fmt<W: fmt::Write>(&self, f: &mut fmt::Formatter<W>) -> fmt::Result {
         match self {
-            BitPackingError::LevelTooWide => write!(f, "level too wide: over 128 bits"),
-            BitPackingError::SubByteLevel { bits } => write!(f, "sub-byte level: {bits} bits"),
-            BitPackingError::NotAHypercube { cells } => write!(f, "no hypercube: {cells} cells"),
+            BitPackingError::LevelTooWide => write!(f, "a level of over 128 bits cannot pack"),
+            BitPackingError::SubByteLevel { bits } => {
+                write!(f, "a {bits}-bit level cannot pack a byte's worth of cells")
+            }
+            BitPackingError::NotAHypercube { cells } => {
+                write!(
+                    f,
+                    "a bit witness covers {cells} cells, which is no hypercube"
+                )
+            }
             BitPackingError::TooShort { needed, actual } => {
-                write!(f, "too short: {needed} bytes needed, {actual} given")
+                write!(f, "packing needs at least {needed} bytes, got {actual}")
             }
         }
     }
@@ -33,33 +40,42 @@ impl fmt::Display for BitRingSwitchError {
                 num_variables,
             } => write!(
                 f,
-                "view too tall: {row_variables} row variables of {num_variables}"
+                "the successor view names {row_variables} row variables, the point {num_variables}"
             ),
             BitRingSwitchError::PointTooNarrow { needed, actual } => write!(
                 f,
-                "point too narrow: {needed} coordinates needed, {actual} given"
+                "the evaluation point names {actual} variables, at least {needed} are needed"
             ),
             BitRingSwitchError::WidthMismatch { expected, actual } => write!(
                 f,
-                "packing: {expected} variables expected, {actual} given"
+                "the reduction runs over {expected} variables, got {actual}"
             ),
             BitRingSwitchError::SuccessorBatching { expected: true } => {
-                write!(f, "batching: no challenge given")
+                write!(
+                    f,
+                    "the batching stage does not fit the reduction, successor challenge expected: true"
+                )
             }
             BitRingSwitchError::SuccessorBatching { expected: false } => {
-                write!(f, "batching: no challenge expected")
+                write!(
+                    f,
+                    "the batching stage does not fit the reduction, successor challenge expected: false"
+                )
             }
             BitRingSwitchError::BatchWidthMismatch { expected, actual } => write!(
                 f,
-                "batching point: {expected} coordinates expected, {actual} given"
+                "the batching challenge names {actual} variables, expected {expected}"
             ),
-            BitRingSwitchError::NoSuccessorView => write!(f, "successor claim: no view given"),
+            BitRingSwitchError::NoSuccessorView => write!(
+                f,
+                "the reduction was set up without a successor view"
+            ),
             BitRingSwitchError::WeightIndex { count, index } => {
-                write!(f, "no weight {index}: there are {count}")
+                write!(f, "there are {count} weights, none at index {index}")
             }
             BitRingSwitchError::ClosingWidth { expected, actual } => write!(
                 f,
-                "closing point: {expected} coordinates expected, {actual} given"
+                "the slot runs over {expected} variables, the closing point names {actual}"
             ),
         }
     }

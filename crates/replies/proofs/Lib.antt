@@ -1,1 +1,3 @@
+mod Blame
+mod Only
 mod Splitting

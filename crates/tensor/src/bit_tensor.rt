@@ -1,7 +1,7 @@
 ghost use Rattle.std.specs.Prelude.{◌≡◌, ◌<◌, ◌≤◌, map, length};
 ghost use Rattle.level.specs.Element.{width};
 ghost use Rattle.multilinear.specs.Lent.{lent};
-ghost use Rattle.tensor_algebra.specs.Tensor.{nothing, one, exterior, add, column, scale_rows, scale_columns, equality_factor, batch_rows, equality_element, successor_element};
+ghost use Rattle.tensor_algebra.specs.Tensor.{nothing, one, exterior, add, column, scale_rows, scale_columns, equality_factor, batch_rows, equality_element, successor_element, equality_factors};
 ghost use Rattle.ring_switch.specs.Claims.{by_columns};
 
 use crate::{equality, successor};
@@ -76,7 +76,7 @@ impl<'a, L: Level> BitTensor<'a, L> {
         rows::add(self.rows, other);
     }
 
-    // Multiplies every row by b: the product with one ⊗ b.
+    // Multiplies every row by b.
     pub fn scale_rows(&mut self, b: L)
         ensures same { self.new.rows.ghost_name ≡ self.old.rows.ghost_name }
         ensures len { length self.new.rows.now ≡ length self.old.rows.now }
@@ -85,7 +85,7 @@ impl<'a, L: Level> BitTensor<'a, L> {
         rows::scale_rows(self.rows, b);
     }
 
-    // Adds (a ⊗ one) · other.
+    // Adds other rows with their columns times a.
     pub fn add_scaled_columns(&mut self, other: PerCoordinate<L>, a: L)
         requires narrow { L.Level.log ≤ 7 }
         requires rows { length self.old.rows.now ≡ width L.Level.log }
@@ -96,7 +96,7 @@ impl<'a, L: Level> BitTensor<'a, L> {
         columns::add_scaled_columns(self.rows, other, a);
     }
 
-    // Multiplies every column by a: the product with a ⊗ one. The scratch, d elements, is left zero.
+    // Multiplies every column by a. The scratch, d elements, is left zero.
     pub fn scale_columns(&mut self, a: L, scratch: &mut [L])
         requires narrow { L.Level.log ≤ 7 }
         requires rows { length self.old.rows.now ≡ width L.Level.log }
@@ -109,7 +109,7 @@ impl<'a, L: Level> BitTensor<'a, L> {
         columns::scale_columns(self.rows, a, scratch);
     }
 
-    // Multiplies by the equality factor one ⊗ one + a ⊗ one + one ⊗ b. The scratch, d elements, is left zero.
+    // Adds itself with its columns times a, and with its rows times b: the equality factor of a and b. The scratch, d elements, is left zero.
     pub fn mul_equality_factor(&mut self, a: L, b: L, scratch: &mut [L])
         requires narrow { L.Level.log ≤ 7 }
         requires rows { length self.old.rows.now ≡ width L.Level.log }
@@ -120,6 +120,20 @@ impl<'a, L: Level> BitTensor<'a, L> {
         ensures scratch { lent L.means scratch.new ≡ nothing }
     {
         columns::mul_equality_factor(self.rows, a, b, scratch);
+    }
+
+    // Multiplies by the equality factors of two points' coordinates, one after the other. The scratch, d elements, is left zero.
+    pub fn mul_equality_factors(&mut self, point: &[L], other: &[L], scratch: &mut [L])
+        requires narrow { L.Level.log ≤ 7 }
+        requires rows { length self.old.rows.now ≡ width L.Level.log }
+        requires scratch { length scratch.old ≡ width L.Level.log }
+        requires points { length other.now ≡ length point.now }
+        ensures same { self.new.rows.ghost_name ≡ self.old.rows.ghost_name }
+        ensures len { length self.new.rows.now ≡ length self.old.rows.now }
+        ensures rows { lent L.means self.new.rows.now ≡ equality_factors L.arithmetic (map L.means point.now) (map L.means other.now) (lent L.means self.old.rows.now) }
+        ensures scratch { lent L.means scratch.new ≡ nothing }
+    {
+        equality::equality_factors(self.rows, point, other, scratch);
     }
 
     // Becomes the equality element of two points. The scratch, d elements, is left zero.

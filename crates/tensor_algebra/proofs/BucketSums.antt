@@ -4,7 +4,7 @@ use Rattle.level.specs.Element.{Element, width}
 use Rattle.level.specs.Laws.{Arithmetic, Laws}
 use Rattle.level.proofs.Digits.{bit_of_byte}
 use Rattle.multilinear.specs.Sums.{sum, at_bit, where_set}
-use Rattle.multilinear.proofs.Sums.{sum_same, sum_exchange, at_bit_sum}
+use Rattle.multilinear.proofs.Sums.{sum_same, sum_rows, sum_exchange, at_bit_sum}
 use Rattle.multilinear.proofs.Windows.{sum_single, at_bit_where}
 use Rattle.tensor_algebra.specs.Tensor.{Tensor, exterior, scale_columns}
 use Rattle.tensor_algebra.specs.Subsets.{basis, byte}
@@ -38,8 +38,17 @@ module _ {k : ℕ} {A : Arithmetic k} (laws : Laws A) where
       → scale_columns A a t u ≡ sum (width k) (λ i. exterior (A.times a (basis k i)) (t i) u)
   scale_columns_rows a t u = scale_columns_same laws a t _ (rows_by_basis t) u ∙ scale_columns_exteriors laws a (width k) (basis k) t u
 
+  of_tables : (n m : ℕ) (e outer inner t : ℕ → Element k) → ((b j : ℕ) → b < n → j < m → e (b * m + j) ≡ A.times (outer b) (inner j)) → (u : ℕ)
+      → sum (n * m) (λ w. exterior (e w) (t w) u) ≡ sum n (λ b. scale_columns A (outer b) (λ v. sum m (λ j. exterior (inner j) (t (b * m + j)) v)) u)
+  of_tables n m e outer inner t f u =
+      sum_rows n m (λ w. exterior (e w) (t w) u)
+      ∙ sum_same n _ _ (λ b hb.
+      sum_same m _ _ (λ j hj. ap (λ x. exterior x (t (b * m + j)) u) (f b j hb hj))
+      ∙ sym (scale_columns_exteriors laws (outer b) m inner (λ j. t (b * m + j)) u))
+
 pub columns_are_scaled : ColumnsAreScaled
 columns_are_scaled = record {
   of_blocks = λ laws o n a b u. sym (scale_columns_exteriors laws o n a b u);
+  of_tables = of_tables;
   by_rows = scale_columns_rows;
 }

@@ -1,15 +1,17 @@
 -- Sums over an element's set coordinates: linear in the element, and by its bytes.
-use Rattle.std.proofs.Common.{◌≡◌, ℕ, zero, suc, ◌+◌, ◌-◌, ◌*◌, ◌/◌, ◌%◌, ◌^◌, ◌<◌, ◌≤◌, sym, refl, ap, ◌∙◌, mul_comm, arith, pow_mono, pow-add}
+use Rattle.std.proofs.Common.{◌≡◌, ℕ, zero, suc, ◌+◌, ◌-◌, ◌*◌, ◌/◌, ◌%◌, ◌^◌, ◌<◌, ◌≤◌, max, ⊎_elim, sym, refl, ap, ◌∙◌, mul_comm, zero-add, arith, pow_mono, pow-add}
 use native.Mathlib.Nat.{zero-div}
 use lib.Bits.{bit_and, bit_xor, xor_shr, xor_mod}
 use lib.Count.{count_trailing_zeros}
+use Rattle.std.proofs.lemmas.Bool.{cases_lt}
 use Rattle.level.specs.Element.{Element, width, coordinate, plus, zeros}
 use Rattle.level.specs.Laws.{Arithmetic, Laws}
 use Rattle.level.proofs.Digits.{bit_of_byte}
+use Rattle.level.proofs.Elements.{zeros_plus}
 use Rattle.multilinear.specs.Sums.{sum, at_bit}
 use Rattle.multilinear.proofs.Sums.{sum_same, sum_none, sum_plus, sum_rows, times_sum, times_at_bit}
-use Rattle.multilinear.proofs.Coordinates.{coordinate_zeros}
-use Rattle.multilinear.proofs.Windows.{sum_single}
+use Rattle.multilinear.proofs.Coordinates.{coordinate_zeros, coordinate_past}
+use Rattle.multilinear.proofs.Windows.{sum_single, sum_window}
 use Rattle.tensor_algebra.specs.Tensor.{subset_sum}
 use Rattle.tensor_algebra.specs.Subsets.{basis, byte, byte_sum, SubsetSumsAreLinear, SubsetSumsByBytes}
 use Rattle.tensor_algebra.proofs.Columns.{at_plus, at_bit_xor}
@@ -22,6 +24,12 @@ eights k h =
     let e : k ≡ (k - 3) + 3 = omega arith in
     let p : 2 ^ k ≡ 2 ^ (k - 3) * 8 = ap (λ n. 2 ^ n) e ∙ pow-add 2 (k - 3) 3 in
     omega arith
+
+one_byte : (k : ℕ) → k < 3 → max 1 (width k / 8) ≡ 1
+one_byte k h = let l : k ≤ 2 = omega arith in let m : 2 ^ k ≤ 4 = pow_mono l in omega arith
+
+some_bytes : (k : ℕ) → 3 ≤ k → max 1 (width k / 8) ≡ width k / 8
+some_bytes k h = let m : 2 ^ 3 ≤ 2 ^ k = pow_mono h in omega arith
 
 module _ {k : ℕ} (f : ℕ → Element k) where
   pub subset_zeros : subset_sum f (zeros k) ≡ zeros k
@@ -56,14 +64,33 @@ module _ {k : ℕ} (f : ℕ → Element k) where
       ∙ sum_same (width k) _ _ (λ u _.
       ap (subset_sum f) (times_at_bit laws (coordinate x u) a (basis k u)) ∙ subset_at_bit (coordinate x u) (A.times a (basis k u)))
 
-  pub subset_bytes : 3 ≤ k → (x : Element k) → subset_sum f x ≡ sum (width k / 8) (λ j. byte_sum f j (byte x j))
+  whole_bytes : 3 ≤ k → (x : Element k) → subset_sum f x ≡ sum (width k / 8) (λ j. byte_sum f j (byte x j))
   unfolding subset_sum byte_sum
-  subset_bytes h x =
+  whole_bytes h x =
       ap (λ n. sum n (λ u. at_bit (coordinate x u) (f u))) (eights k h)
       ∙ sum_rows (width k / 8) 8 (λ u. at_bit (coordinate x u) (f u))
       ∙ sum_same (width k / 8) _ _ (λ j _. sum_same 8 _ _ (λ b l.
       ap (λ n. at_bit (coordinate x (n + b)) (f (n + b))) (mul_comm j 8)
       ∙ ap (λ c. at_bit c (f (8 * j + b))) (sym (bit_of_byte x.number (8 * j) b l))))
+
+  -- less than a byte: no coordinate is set past the width
+  narrow_byte : (x : Element k) → k < 3 → subset_sum f x ≡ byte_sum f 0 (byte x 0)
+  unfolding byte_sum subset_sum at_bit
+  narrow_byte x h =
+      let l : k ≤ 2 = omega arith in
+      let w : 2 ^ k ≤ 4 = pow_mono l in
+      let v : 2 ^ width k ≤ 16 = pow_mono w in
+      let term : ℕ → Element k = λ u. at_bit (coordinate x u) (f u) in
+      let b : byte x 0 ≡ x.number = omega (arith, x.fits) in
+      sym (ap (byte_sum f 0) b ∙ sum_same 8 _ term (λ u _. ap (λ i. at_bit (coordinate x u) (f i)) (zero-add u))
+      ∙ sum_window 8 0 (width k) term (omega arith) (λ u _ out. ap (λ c. at_bit c (f u)) (coordinate_past x u (⊎_elim (λ z. omega arith) (λ z. omega arith) out)))
+      ∙ sum_same (width k) _ term (λ u _. ap term (zero-add u)))
+
+  pub subset_bytes : (x : Element k) → subset_sum f x ≡ sum (max 1 (width k / 8)) (λ j. byte_sum f j (byte x j))
+  unfolding sum
+  subset_bytes x =
+      let all : ℕ → Element k = λ n. sum n (λ j. byte_sum f j (byte x j)) in
+      ⊎_elim (λ h. narrow_byte x h ∙ sym (ap all (one_byte k h) ∙ zeros_plus _)) (λ h. whole_bytes h x ∙ sym (ap all (some_bytes k h))) (cases_lt k 3)
 
   pub byte_zero : (j : ℕ) → byte_sum f j 0 ≡ zeros k
   unfolding byte_sum at_bit
@@ -96,7 +123,7 @@ subset_sums_are_linear = record {
 
 pub subset_sums_by_bytes : SubsetSumsByBytes
 subset_sums_by_bytes = record {
-  by_bytes = λ h f. subset_bytes f h;
+  by_bytes = subset_bytes;
   of_zero = byte_zero;
   extends = byte_extends;
 }

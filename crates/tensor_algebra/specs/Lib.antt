@@ -1,3 +1,4 @@
 pub mod Tensor
 pub mod Subsets
 pub mod Buckets
+pub mod Legs

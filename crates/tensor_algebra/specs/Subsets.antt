@@ -1,5 +1,5 @@
 -- Sums of weights over an element's set coordinates: through its parts, and a byte at a time.
-use Rattle.std.specs.Prelude.{◌≡◌, ℕ, ◌+◌, ◌-◌, ◌*◌, ◌/◌, ◌%◌, ◌^◌, ◌<◌, ◌≤◌, bit_and}
+use Rattle.std.specs.Prelude.{◌≡◌, ℕ, ◌+◌, ◌-◌, ◌*◌, ◌/◌, ◌%◌, ◌^◌, ◌<◌, ◌≤◌, max, bit_and}
 use Rattle.std.specs.Int.Count.{count_trailing_zeros}
 use Rattle.level.specs.Element.{Element, width, cut, plus, zeros}
 use Rattle.level.specs.Laws.{Arithmetic, Laws}
@@ -26,10 +26,10 @@ pub record SubsetSumsAreLinear : Type 0 where
   pub of_times : {k : ℕ} {A : Arithmetic k} → Laws A → (f : ℕ → Element k) (a x : Element k)
       → subset_sum f (A.times a x) ≡ subset_sum (λ u. subset_sum f (A.times a (basis k u))) x
 
--- It is a sum over the element's bytes. The sum for a byte extends that for the byte without its lowest set bit; the width w of the
+-- It is a sum over the element's bytes, of which a narrow element has one. The sum for a byte extends that for the byte without its lowest set bit; the width w of the
 -- number whose trailing zeros are counted does not matter where the byte fits it.
 pub record SubsetSumsByBytes : Type 0 where
-  pub by_bytes : {k : ℕ} → 3 ≤ k → (f : ℕ → Element k) (x : Element k) → subset_sum f x ≡ sum (width k / 8) (λ j. byte_sum f j (byte x j))
+  pub by_bytes : {k : ℕ} (f : ℕ → Element k) (x : Element k) → subset_sum f x ≡ sum (max 1 (width k / 8)) (λ j. byte_sum f j (byte x j))
   pub of_zero : {k : ℕ} (f : ℕ → Element k) (j : ℕ) → byte_sum f j 0 ≡ zeros k
   pub extends : {k : ℕ} (f : ℕ → Element k) (j s w : ℕ) → 0 < s → s < 256 → 8 ≤ w
       → byte_sum f j s ≡ plus (byte_sum f j (bit_and s (s - 1))) (f (8 * j + count_trailing_zeros w s))

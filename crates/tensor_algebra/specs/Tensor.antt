@@ -37,15 +37,15 @@ first_leg A x = exterior x A.unit
 unfoldable pub second_leg : {k : ℕ} → Arithmetic k → Element k → Tensor k
 second_leg A y = exterior A.unit y
 
--- every row times b: the product with one ⊗ b
+-- every row times b, which acts on the second legs
 unfoldable pub scale_rows : {k : ℕ} → Arithmetic k → Element k → Tensor k → Tensor k
 scale_rows A b t u = A.times b (t u)
 
--- every column times a: the product with a ⊗ one
+-- every column times a, which acts on the first legs
 unfoldable pub scale_columns : {k : ℕ} → Arithmetic k → Element k → Tensor k → Tensor k
 scale_columns {k} A a t u = gather k (λ v. coordinate (A.times a (column t v)) u)
 
--- the equality factor: the product with one ⊗ one + a ⊗ one + one ⊗ b
+-- the equality factor of a and b: the tensor, and beside it itself with its columns times a, and with its rows times b
 unfoldable pub equality_factor : {k : ℕ} → Arithmetic k → Element k → Element k → Tensor k → Tensor k
 equality_factor A a b t = add (add t (scale_columns A a t)) (scale_rows A b t)
 

@@ -3,4 +3,5 @@
 #![tactic(auto)]
 
 pub mod buckets;
+pub mod legs;
 pub mod subsets;

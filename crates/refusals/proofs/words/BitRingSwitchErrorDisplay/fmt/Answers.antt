@@ -3,6 +3,12 @@ use Rattle.refusals.proofs.words.BitRingSwitchErrorDisplay.fmt.Goals as goal
 pub returns-in-RowVariables-clause-writes : goal.returns-in-RowVariables-clause-writes
 returns-in-RowVariables-clause-writes g c = rw c.in-RowVariables.is c.write.ensures.writes
 
+pub returns-in-PointTooNarrow-clause-writes : goal.returns-in-PointTooNarrow-clause-writes
+returns-in-PointTooNarrow-clause-writes g c = rw c.in-PointTooNarrow.is c.write-in-PointTooNarrow.ensures.writes
+
+pub returns-in-WidthMismatch-clause-writes : goal.returns-in-WidthMismatch-clause-writes
+returns-in-WidthMismatch-clause-writes g c = rw c.in-WidthMismatch.is c.write-in-WidthMismatch.ensures.writes
+
 pub returns-in-BatchWidthMismatch-clause-writes : goal.returns-in-BatchWidthMismatch-clause-writes
 returns-in-BatchWidthMismatch-clause-writes g c = rw c.in-BatchWidthMismatch.is c.write-in-BatchWidthMismatch.ensures.writes
 
