@@ -1,5 +1,5 @@
 // The reduction's algorithms in plain Rust, as p3-sumcheck 0.8.0 has them in src/ring_switch/bits, in one thread and without its
-// kernels for wide registers. Whatever it allocates is lent here, so that nothing is allocated while time is taken.
+// kernels for wide registers. Whatever it allocates is lent here, so that nothing is allocated while time is taken, but for `pack_collected`.
 use crate::levels::Level;
 
 // The coordinates that the inner factor of an equality table takes at most.
@@ -11,6 +11,11 @@ pub fn pack<L: Level>(bits: &[u8], elements: &mut [L]) {
         bytes[..L::BYTES].copy_from_slice(chunk);
         *element = L::from_bytes(bytes);
     }
+}
+
+// The same as p3-sumcheck writes it, into a vector of its own.
+pub fn pack_collected<L: Level>(bits: &[u8]) -> Vec<L> {
+    bits.chunks_exact(L::BYTES).map(|chunk| L::from_le_byte_iter(chunk.iter().copied())).collect()
 }
 
 fn equality_table<L: Level>(table: &mut [L], point: &[L]) {

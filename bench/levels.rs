@@ -18,6 +18,14 @@ pub trait Level: Copy + PartialEq {
         Self::from_bits(u128::from_le_bytes(bytes))
     }
 
+    fn from_le_byte_iter(bytes: impl Iterator<Item = u8>) -> Self {
+        let mut sixteen = [0; 16];
+        for (slot, byte) in sixteen.iter_mut().zip(bytes) {
+            *slot = byte;
+        }
+        Self::from_bytes(sixteen)
+    }
+
     fn to_bytes(self) -> [u8; 16] {
         self.bits().to_le_bytes()
     }

@@ -194,6 +194,8 @@ struct Input<L> {
 #[derive(Clone, Copy)]
 enum Operation {
     Packing,
+    // The Rust collects into a vector of its own, as p3-sumcheck does, and frees the one before.
+    PackingCollected,
     Tensors(Option<usize>),
     Weights(Option<usize>),
 }
@@ -201,13 +203,13 @@ enum Operation {
 #[inline(never)]
 fn rattle<L: Rattle>(input: &Input<L>, memory: &mut Memory<L>, operation: Operation) {
     let Memory { elements, outer, inner, shifted, tensors: [tensor, carry, last], table, buckets, tables, .. } = memory;
-    if let Operation::Packing = operation {
+    if let Operation::Packing | Operation::PackingCollected = operation {
         return L::pack(&input.bits, elements);
     }
     L::factor(outer, inner, &input.point);
     let equality = FactoredEquality { outer, inner };
     match operation {
-        Operation::Packing => {}
+        Operation::Packing | Operation::PackingCollected => {}
         Operation::Tensors(view) => {
             L::tensor(elements, &equality, tensor, buckets);
             if let Some(kept) = view {
@@ -222,13 +224,18 @@ fn rattle<L: Rattle>(input: &Input<L>, memory: &mut Memory<L>, operation: Operat
 #[inline(never)]
 fn rust<L: Level>(input: &Input<L>, memory: &mut Memory<L>, operation: Operation) {
     let Memory { elements, outer, inner, shifted, tensors: [tensor, carry, last], table, buckets, sum, tables } = memory;
-    if let Operation::Packing = operation {
-        return algorithms::pack(&input.bits, elements);
+    match operation {
+        Operation::Packing => return algorithms::pack(&input.bits, elements),
+        Operation::PackingCollected => {
+            *elements = algorithms::pack_collected(&input.bits);
+            return;
+        }
+        Operation::Tensors(_) | Operation::Weights(_) => {}
     }
     algorithms::factor(outer, inner, &input.point);
     let equality = FactoredEquality { outer, inner };
     match operation {
-        Operation::Packing => {}
+        Operation::Packing | Operation::PackingCollected => {}
         Operation::Tensors(view) => {
             let buckets = buckets[..256 * L::BYTES].as_chunks_mut().0;
             let mut scratch = Scratch { buckets, sum };
@@ -282,7 +289,11 @@ fn measure<L: Rattle>(name: &str, log_cells: usize, worst: &mut f64) {
     let mut views = vec![1, 6, high];
     views.retain(|&kept| kept <= high);
     views.dedup();
-    let mut operations = vec![("packing".to_string(), Operation::Packing), ("tensor, no view".to_string(), Operation::Tensors(None))];
+    let mut operations = vec![
+        ("packing".to_string(), Operation::Packing),
+        ("packing, collected".to_string(), Operation::PackingCollected),
+        ("tensor, no view".to_string(), Operation::Tensors(None)),
+    ];
     operations.extend(views.iter().map(|&kept| (format!("tensors, kept {kept}"), Operation::Tensors(Some(kept)))));
     operations.push(("weights, no view".to_string(), Operation::Weights(None)));
     operations.extend(views.iter().map(|&kept| (format!("weights, kept {kept}"), Operation::Weights(Some(kept)))));

@@ -1,5 +1,5 @@
-// What the Rust answers where the proved code answers otherwise, at the witnesses of docs/DIFFERENCES.md. Each line that is printed was
-// seen to hold.
+// What the Rust answers where the proved code answers otherwise, at the witnesses of docs/DIFFERENCES.md, and the words of its refusals. Each
+// line that is printed was seen to hold.
 use p3_binary_field::{Doubling, TowerByte, TowerLevel};
 use p3_field::Field;
 use p3_multilinear_util::point::Point;

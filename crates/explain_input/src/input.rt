@@ -102,7 +102,7 @@ pub fn refusals_stand()
     ensures { RefusedSayNothing }
 {}
 
-// An input says one thing.
+// A text gives its parts in one way.
 pub fn parts_are_determined()
     ensures { PartsDetermined }
 {}

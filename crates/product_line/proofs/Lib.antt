@@ -2,4 +2,4 @@ pub mod Shapes
 pub mod Answering
 pub mod Endings
 pub mod Only
-pub mod Blame
+pub mod MemoryWords

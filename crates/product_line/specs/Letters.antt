@@ -47,8 +47,8 @@ abbrev pub OnlyAnAnswer : Type 0
 OnlyAnAnswer = (line answer reply : List ℕ) → Answer line answer → Reply line reply → Answer line reply
 
 -- no reply begins with these words
-abbrev pub NoneBlamesMemory : Type 0
-NoneBlamesMemory = (line rest : List ℕ) → Reply line (codes "error: no memory" ++ rest) → ⊥
+abbrev pub NoneTellsOfMemory : Type 0
+NoneTellsOfMemory = (line rest : List ℕ) → Reply line (codes "error: no memory" ++ rest) → ⊥
 
 -- a line without the newline, byte 10, that may end it
 abbrev pub Stripped : List ℕ → List ℕ → Type 0

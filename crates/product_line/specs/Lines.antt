@@ -43,8 +43,8 @@ BadOperand digits rest (Shape n) = ⊥
 BadOperand digits rest (Digit place) = NoDigitAt digits rest place
 BadOperand digits rest Memory = ⊥
 
--- Why the rest of a line is refused: it has not the shape, with that many digits for each element; or a character of it is no
--- digit; or there was no memory for the answer.
+-- Why the rest of a line is refused: it has not the shape, with that many digits for each element; or a character of it other
+-- than the two spaces is no digit; or there was no memory for the answer.
 abbrev pub BadRest : ℕ → List ℕ → LineFault → Type 0
 BadRest k rest Letter = ⊥
 BadRest k rest (Shape digits) = (digits ≡ 2 * byte_count k) × ((left right : List ℕ) → Operands digits rest left right → ⊥)

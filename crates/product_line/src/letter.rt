@@ -1,5 +1,5 @@
 ghost use Rattle.std.specs.Prelude.{◌≡◌, ◌++◌, IfOk, string_bytes, codes, MatchResult};
-ghost use Rattle.product_line.specs.Letters.{Answer, BadLine, Reply, OnlyAnAnswer, NoneBlamesMemory, fault_text, Stripped};
+ghost use Rattle.product_line.specs.Letters.{Answer, BadLine, Reply, OnlyAnAnswer, NoneTellsOfMemory, fault_text, Stripped};
 
 use crate::line::{LineFault, product};
 use byte_levels::polynomial_byte::PolynomialByte;
@@ -50,8 +50,8 @@ pub fn only_an_answer()
 {}
 
 // No reply tells of a want of memory.
-pub fn none_blames_memory()
-    ensures { NoneBlamesMemory }
+pub fn none_tells_of_memory()
+    ensures { NoneTellsOfMemory }
 {}
 
 // A line without the newline that ended it.

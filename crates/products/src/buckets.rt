@@ -3,7 +3,7 @@ ghost use Rattle.level.specs.Element.{Element, width};
 ghost use Rattle.multilinear.specs.Lent.{lent};
 ghost use Rattle.tensor_algebra.specs.Buckets.{bucket};
 ghost use Rattle.products.specs.Buckets.{bytes, Empty, Added, Bucketed, Summed};
-ghost use Rattle.products.specs.Halves.{AllHalved};
+ghost use Rattle.products.specs.Halves.{of_byte, AllHalved};
 
 use crate::gathering::{add_term, add_terms};
 use crate::reading::read_rows;
@@ -74,6 +74,7 @@ impl<'a, L: Level> BitTensorBuckets<'a, L> {
         ensures same { self.new.buckets.ghost_name ≡ self.old.buckets.ghost_name }
         ensures len { length self.new.buckets.now ≡ length self.old.buckets.now }
         ensures rows { (a b : ℕ → Element L.Level.log) (n : ℕ) → Bucketed a b n (lent L.means self.old.buckets.now) → Summed a b n (lent L.means rows.new) }
+        ensures halved { AllHalved (λ j. of_byte j (lent L.means self.old.buckets.now)) (lent L.means self.new.buckets.now) }
         ensures buckets { (a b : ℕ → Element L.Level.log) (n : ℕ) → Bucketed a b n (lent L.means self.old.buckets.now) → AllHalved (bucket a b n) (lent L.means self.new.buckets.now) }
     {
         read_rows(self.buckets, rows);

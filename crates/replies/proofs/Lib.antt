@@ -1,3 +1,3 @@
-mod Blame
+mod MemoryWords
 mod Only
 mod Splitting

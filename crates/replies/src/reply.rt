@@ -1,6 +1,6 @@
 ghost use Rattle.std.specs.Prelude.{IfOk, string_bytes};
 ghost use Rattle.explain_input.specs.Inputs.{parts_of};
-ghost use Rattle.report_lines.specs.Replies.{ReplyAt, ReplyTo, Reply, OnlyTheReport, NoneBlamesMemory};
+ghost use Rattle.report_lines.specs.Replies.{ReplyAt, ReplyTo, Reply, OnlyTheReport, NoneTellsOfMemory};
 
 use crate::reporter::Reporter;
 use byte_levels::polynomial_byte::PolynomialByte;
@@ -56,6 +56,6 @@ pub fn only_the_report()
 {}
 
 // No reply is a line that tells of a want of memory.
-pub fn none_blames_memory()
-    ensures { NoneBlamesMemory }
+pub fn none_tells_of_memory()
+    ensures { NoneTellsOfMemory }
 {}

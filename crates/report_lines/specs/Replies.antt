@@ -36,5 +36,5 @@ OnlyTheReport =
     → Asks parts t → Reply text reply → reply ≡ report_text (arithmetic_of level) t
 
 -- no reply begins with these words
-abbrev pub NoneBlamesMemory : Type 0
-NoneBlamesMemory = (text rest : List ℕ) → Reply text (codes "error: no memory" ++ rest) → ⊥
+abbrev pub NoneTellsOfMemory : Type 0
+NoneTellsOfMemory = (text rest : List ℕ) → Reply text (codes "error: no memory" ++ rest) → ⊥

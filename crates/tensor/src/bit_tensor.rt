@@ -109,7 +109,7 @@ impl<'a, L: Level> BitTensor<'a, L> {
         columns::scale_columns(self.rows, a, scratch);
     }
 
-    // Adds itself with its columns times a, and with its rows times b: the equality factor of a and b. The scratch, d elements, is left zero.
+    // Adds to it itself with its columns times a, and itself with its rows times b: the equality factor of a and b. The scratch, d elements, is left zero.
     pub fn mul_equality_factor(&mut self, a: L, b: L, scratch: &mut [L])
         requires narrow { L.Level.log ≤ 7 }
         requires rows { length self.old.rows.now ≡ width L.Level.log }

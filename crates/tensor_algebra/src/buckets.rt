@@ -6,7 +6,7 @@ pub fn rows_from_buckets()
     ensures { RowsFromBuckets }
 {}
 
-// A common factor of the first legs scales the columns, and scaled columns are a sum over the rows.
+// A common factor of the first legs scales the columns, so a sum over blocks scales each block's once; and scaled columns are a sum over the rows.
 pub fn columns_are_scaled()
     ensures { ColumnsAreScaled }
 {}

@@ -23,7 +23,7 @@ fn add_scaled_row<L: Level>(rows: &mut [L], u: usize, row: L, a: L)
     }
 }
 
-// Adds (a ⊗ one) · other: the rows of `other`, its columns scaled by a.
+// Adds the rows of `other`, its columns scaled by a.
 pub fn add_scaled_columns<L: Level>(rows: &mut [L], other: PerCoordinate<L>, a: L)
     requires narrow { L.Level.log ≤ 7 }
     requires rows { length rows.old ≡ width L.Level.log }
@@ -58,7 +58,8 @@ fn add_scaled<L: Level>(rows: &mut [L], scaled: &[L], b: L)
     }
 }
 
-// Multiplies by the equality factor one ⊗ one + a ⊗ one + one ⊗ b, through a scratch of d elements, which is left zero.
+// Adds to the rows themselves with their columns times a, and themselves with every row times b: the equality factor of a and b. The scratch,
+// d elements, is left zero.
 pub fn mul_equality_factor<L: Level>(rows: &mut [L], a: L, b: L, scratch: &mut [L])
     requires narrow { L.Level.log ≤ 7 }
     requires rows { length rows.old ≡ width L.Level.log }

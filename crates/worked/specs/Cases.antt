@@ -1,4 +1,4 @@
--- Products and small tables worked by hand: at the tower byte, and one product at the polynomial byte.
+-- Products and small tables worked by hand, and one table by an independent program: at the tower byte, and one product at the polynomial byte.
 use Rattle.std.specs.Prelude.{◌≡◌, ℕ, ◌-◌, ◌^◌, List, [], ◌∷◌, map, length, Some, None, Option}
 use Rattle.level.specs.Element.{Element, cut}
 use Rattle.doubling.specs.Doubled.{tower}

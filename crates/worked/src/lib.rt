@@ -1,4 +1,4 @@
-// Cases worked by hand, as one list of theorems about the definitions.
+// Cases worked by hand, and one by an independent program, as one list of theorems about the definitions.
 #![tactic(auto)]
 
 ghost use Rattle.worked.specs.Cases.{Worked};

@@ -12,7 +12,7 @@ use Rattle.problem.proofs.Words.{no_n}
 use Rattle.problem.specs.Messages.{problem_message, error_line}
 use Rattle.problem.specs.Task.{Task}
 use Rattle.report_lines.specs.Report.{unless, lines_below, packed_line, variables_of, opened_text, report_text}
-use Rattle.report_lines.specs.Replies.{ReplyAt, NoneBlamesMemory}
+use Rattle.report_lines.specs.Replies.{ReplyAt, NoneTellsOfMemory}
 
 -- a text that begins with a character
 abbrev Begins : ℕ → List ℕ → Type 0
@@ -52,6 +52,6 @@ at_level : {k : ℕ} (A : Arithmetic k) (parts : Parts) (rest : List ℕ) → Re
 at_level A parts rest (inl (t, asks, is)) = no_report A t rest is
 at_level A parts rest (inr (f, m, bad, is)) = words (problem_message f) rest (no_n f m) is
 
-pub none_blames_memory : NoneBlamesMemory
-none_blames_memory text rest (inl (parts, says, r)) = at_level _ parts rest r.reply_is
-none_blames_memory text rest (inr (f, m, bad, is)) = words (input_message f) rest (input_no_n f m) is
+pub none_tells_of_memory : NoneTellsOfMemory
+none_tells_of_memory text rest (inl (parts, says, r)) = at_level _ parts rest r.reply_is
+none_tells_of_memory text rest (inr (f, m, bad, is)) = words (input_message f) rest (input_no_n f m) is

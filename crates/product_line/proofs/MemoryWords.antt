@@ -4,7 +4,7 @@ use Rattle.std.proofs.lemmas.Bool.Decides.{nat_tests}
 use Rattle.level.specs.Element.{Element}
 use Rattle.level.specs.Bytes.{sixteen}
 use Rattle.element_text.specs.Hex.{digit_code, hex, element_text, byte_count}
-use Rattle.product_line.specs.Letters.{fault_text, NoneBlamesMemory}
+use Rattle.product_line.specs.Letters.{fault_text, NoneTellsOfMemory}
 use Rattle.product_line.specs.declared.line.LineFault.{LineFault}
 use Rattle.product_line.specs.declared.line.LineFault.TheVariants.{Letter, Shape, Digit, Memory}
 
@@ -29,6 +29,6 @@ no_fault (Shape digits) rest m e = let z : ◌≡◌ {A = ℕ} 110 116 = ap (λ 
 no_fault (Digit place) rest m e = let z : ◌≡◌ {A = ℕ} 110 99 = ap (λ l. get_or l 7 0) e in omega arith
 no_fault Memory rest m e = m refl
 
-pub none_blames_memory : NoneBlamesMemory
-none_blames_memory line rest (inl a) = no_element _ rest a.product.answer_is
-none_blames_memory line rest (inr (f, m, bad, is)) = no_fault f rest m is
+pub none_tells_of_memory : NoneTellsOfMemory
+none_tells_of_memory line rest (inl a) = no_element _ rest a.product.answer_is
+none_tells_of_memory line rest (inr (f, m, bad, is)) = no_fault f rest m is
