@@ -16,7 +16,8 @@ use Rattle.tensor_algebra.proofs.LowestBit.{lowest_below}
 use Rattle.tensor_algebra.proofs.SubsetSums.{byte_zero, byte_extends}
 use Rattle.multilinear.proofs.Lent.{lent_written, lent_kept}
 use Rattle.multilinear.proofs.Places.{before_part, in_part, past_part, of_part}
-use Rattle.basis.specs.Tables.{num_bytes, lone, held, Completed, Tabulated}
+use Rattle.basis.specs.Tables.{lone, held, Completed, Tabulated}
+use Rattle.level.specs.Bytes.{num_bytes}
 
 -- the lowest set bit of a number, alone, is no more than the number
 pub lowest_le : (w n : ℕ) → 0 < n → n < 2 ^ w → 2 ^ count_trailing_zeros w n ≤ n

@@ -2,11 +2,10 @@
 use Rattle.std.proofs.Common.{◌≡◌, ℕ, ◌+◌, ◌*◌, ◌^◌, ◌<◌, ◌≤◌, ◌⊎◌, List, ◌∷◌, ◌++◌, length, get_or, drop, sym, ap, ◌∙◌, ⊎_elim, arith, length-append, length-drop, length-take-le, take, drop_at, add-zero, pow_mono}
 use Rattle.std.proofs.lemmas.List.{drop-drop, get_or-drop, get_or_append_left}
 use Rattle.level.specs.Element.{Element}
-use Rattle.level.specs.Bytes.{sixteen}
+use Rattle.level.specs.Bytes.{sixteen, num_bytes}
 use Rattle.level.proofs.Digits.{length_digits}
 use Rattle.multilinear.specs.Lent.{lent}
 use Rattle.multilinear.proofs.Lent.{lent_read}
-use Rattle.basis.specs.Tables.{num_bytes}
 
 -- the table at position n, before what is left
 module _ {X : Type 0} {k : ℕ} (means : X → Element k) (tables chunk rest : List X) (n : ℕ) (parts : drop (n * 256) tables ≡ chunk ++ rest)

@@ -2,14 +2,14 @@
 use Rattle.std.proofs.Common.{◌≡◌, ℕ, ◌+◌, ◌*◌, ◌^◌, ◌≤◌, List, length, get_or, take, sym, ap, ◌∙◌, ap₂, add-one, arith, length-take-le, get_or-take, pow_mono}
 use Rattle.level.specs.Element.{Element, plus, zeros}
 use Rattle.level.specs.Laws.{Arithmetic, Laws}
-use Rattle.level.specs.Bytes.{sixteen}
+use Rattle.level.specs.Bytes.{sixteen, num_bytes}
 use Rattle.level.proofs.Digits.{length_digits, digit_at}
 use Rattle.multilinear.specs.Sums.{sum}
 use Rattle.multilinear.proofs.Sums.{sum_same}
 use Rattle.tensor_algebra.specs.Tensor.{subset_sum}
 use Rattle.tensor_algebra.specs.Subsets.{basis, byte}
 use Rattle.tensor_algebra.proofs.SubsetSums.{subset_bytes, subset_times}
-use Rattle.basis.specs.Tables.{num_bytes, Tabulated, looked_up, scaled}
+use Rattle.basis.specs.Tables.{Tabulated, looked_up, scaled}
 use Rattle.basis.proofs.CompletedTables.{byte_same}
 
 module _ {k : ℕ} where

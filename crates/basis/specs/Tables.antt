@@ -1,14 +1,11 @@
 -- Tables of the sums of weights over every subset of the eight coordinates in a byte, one table for each byte of an element.
 use Rattle.std.specs.Prelude.{◌≡◌, ℕ, ◌+◌, ◌*◌, ◌/◌, ◌%◌, ◌^◌, ◌<◌, ◌≤◌, max}
-use Rattle.level.specs.Element.{Element, width}
+use Rattle.level.specs.Element.{Element}
+use Rattle.level.specs.Bytes.{num_bytes}
 use Rattle.level.specs.Laws.{Arithmetic}
 use Rattle.multilinear.specs.Sums.{sum}
 use Rattle.tensor_algebra.specs.Tensor.{subset_sum}
 use Rattle.tensor_algebra.specs.Subsets.{basis, byte, byte_sum}
-
--- how many bytes the coordinates of an element fill, one where they fill less
-abbrev pub num_bytes : ℕ → ℕ
-num_bytes k = max 1 (width k / 8)
 
 -- the sums of the weights f: at place 256j + s, the sum for the byte s at byte position j
 pub record Tabulated {k : ℕ} (f tables : ℕ → Element k) : Type 0 where

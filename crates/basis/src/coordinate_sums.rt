@@ -4,7 +4,8 @@ ghost use Rattle.level.specs.Element.{Element, plus};
 ghost use Rattle.multilinear.specs.Lent.{lent};
 ghost use Rattle.tensor_algebra.specs.Tensor.{subset_sum};
 ghost use Rattle.tensor_algebra.specs.Subsets.{basis};
-ghost use Rattle.basis.specs.Tables.{num_bytes, lone, held, Completed, Tabulated, looked_up, scaled};
+ghost use Rattle.basis.specs.Tables.{lone, held, Completed, Tabulated, looked_up, scaled};
+ghost use Rattle.level.specs.Bytes.{num_bytes};
 
 use crate::coefficients::basis_element;
 use coordinates::num_bytes;

@@ -13,9 +13,10 @@ use Rattle.multilinear.specs.Lent.{lent}
 use Rattle.multilinear.specs.Sums.{where_set}
 use Rattle.multilinear.proofs.Lent.{lent_read}
 use Rattle.multilinear.proofs.Coordinates.{coordinate_mod, coordinate_zeros, gather_coordinates}
-use Rattle.tensor_algebra.specs.Tensor.{Tensor, column, nothing}
+use Rattle.tensor_algebra.specs.Tensor.{Tensor, column, nothing, by_columns}
 use Rattle.equality.specs.Tables.{Tabulated}
-use Rattle.ring_switch.specs.Claims.{starts, ends, by_columns, inside, across, successor_claim}
+use Rattle.ring_switch.specs.Claims.{inside, across, successor_claim}
+use Rattle.multilinear.specs.Columns.{starts, ends}
 use Rattle.ring_switch.specs.ClaimLaws.{Binary, opened, opened_carry, opened_last}
 use Rattle.ring_switch.specs.Opening.{low}
 use Rattle.ring_switch.proofs.Successor.{claim_inside, claim_across, successor_is_multilinear}

@@ -7,10 +7,10 @@ use Rattle.multilinear.specs.Equality.{Point, equality, multilinear}
 use Rattle.multilinear.specs.Lent.{lent}
 use Rattle.multilinear.specs.Sums.{sum}
 use Rattle.multilinear.proofs.Sums.{sum_same}
-use Rattle.tensor_algebra.specs.Tensor.{Tensor, column}
+use Rattle.tensor_algebra.specs.Tensor.{Tensor, column, by_columns}
 use Rattle.tensor_rows.proofs.Turns.{batched}
 use Rattle.equality.specs.Tables.{Tabulated}
-use Rattle.ring_switch.specs.Claims.{by_columns, incoming}
+use Rattle.ring_switch.specs.Claims.{incoming}
 use Rattle.ring_switch.specs.ClaimLaws.{Binary, opened}
 use Rattle.ring_switch.specs.Opening.{low}
 use Rattle.ring_switch.proofs.Incoming.{incoming_is_multilinear}

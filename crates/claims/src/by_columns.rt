@@ -2,8 +2,7 @@ ghost use Rattle.std.specs.Prelude.{◌≡◌, ◌≤◌, length};
 ghost use Rattle.level.specs.Element.{width};
 ghost use Rattle.multilinear.specs.Lent.{lent};
 ghost use Rattle.multilinear.specs.Sums.{sum as sum_of};
-ghost use Rattle.tensor_algebra.specs.Tensor.{nothing};
-ghost use Rattle.ring_switch.specs.Claims.{by_columns};
+ghost use Rattle.tensor_algebra.specs.Tensor.{nothing, by_columns};
 
 use coordinates::per_coordinate::PerCoordinate;
 use level::level::Level;

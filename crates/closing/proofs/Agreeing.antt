@@ -6,7 +6,7 @@ use Rattle.multilinear.specs.Equality.{Point, equality}
 use Rattle.multilinear.specs.Sums.{where_set, at_bit}
 use Rattle.multilinear.proofs.Sums.{sum_same}
 use Rattle.tensor_algebra.specs.Tensor.{Tensor, subset_sum, batch_rows, equality_element}
-use Rattle.ring_switch.specs.Claims.{starts, ends}
+use Rattle.multilinear.specs.Columns.{starts, ends}
 use Rattle.ring_switch.specs.Batching.{Stepping, settled, weight, successor_rows, initial_sum, carry_element, last_element, closing_value}
 
 module _ {k : ℕ} (A : Arithmetic k) (f g : ℕ → Element k) (agree : (u : ℕ) → u < width k → f u ≡ g u) where

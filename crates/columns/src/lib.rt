@@ -2,7 +2,7 @@
 #![tactic(auto)]
 
 ghost use Rattle.std.specs.Prelude.{◌≡◌, ◌+◌, ◌-◌, ◌*◌, ◌^◌, ◌<◌};
-ghost use Rattle.ring_switch.specs.Claims.{starts, ends};
+ghost use Rattle.multilinear.specs.Columns.{starts, ends};
 
 // Columns of 2^row_variables entries, one after the other.
 #[derive(Clone, Copy, Debug, PartialEq, Eq)]

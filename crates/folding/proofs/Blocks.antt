@@ -13,7 +13,8 @@ use Rattle.multilinear.proofs.Sums.{sum_same, sum_rows, sum_plus, times_where}
 use Rattle.multilinear.proofs.Windows.{sum_single}
 use Rattle.tensor_algebra.specs.Tensor.{exterior, scale_columns}
 use Rattle.tensor_algebra.proofs.BucketSums.{columns_are_scaled}
-use Rattle.ring_switch.specs.Claims.{tensor, carry, last, starts, ends}
+use Rattle.ring_switch.specs.Claims.{tensor, carry, last}
+use Rattle.multilinear.specs.Columns.{starts, ends}
 use Rattle.ring_switch.proofs.ColumnsBounds.{shift_mod, pow_multiple, starts_split}
 use Rattle.ring_switch.proofs.Columns.{where_exterior}
 use Rattle.ring_switch.proofs.SlotTensors.{exterior_zeros}

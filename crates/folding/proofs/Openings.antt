@@ -10,7 +10,8 @@ use Rattle.multilinear.specs.Sums.{where_set}
 use Rattle.multilinear.proofs.Sums.{sum_same}
 use Rattle.tensor_algebra.specs.Tensor.{Tensor, exterior}
 use Rattle.ring_switch.specs.Opening.{View, rest}
-use Rattle.ring_switch.specs.Claims.{tensor, carry, last, starts, ends}
+use Rattle.ring_switch.specs.Claims.{tensor, carry, last}
+use Rattle.multilinear.specs.Columns.{starts, ends}
 use Rattle.ring_switch.specs.ClaimLaws.{opened, opened_carry, opened_last}
 use Rattle.ring_switch.specs.Slots.{in_slot}
 use Rattle.ring_switch.proofs.SlotTensors.{slot, stepped_slot}

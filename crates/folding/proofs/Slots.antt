@@ -13,7 +13,8 @@ use Rattle.multilinear.proofs.Sums.{sum_same, sum_plus}
 use Rattle.equality.specs.Tables.{Factors}
 use Rattle.equality.proofs.Factoring.{block_entry}
 use Rattle.tensor_algebra.specs.Tensor.{Tensor, nothing, exterior, add, scale_columns}
-use Rattle.ring_switch.specs.Claims.{tensor, carry, last, starts}
+use Rattle.ring_switch.specs.Claims.{tensor, carry, last}
+use Rattle.multilinear.specs.Columns.{starts}
 use Rattle.folding.specs.Folds.{block, with_all, entering}
 use Rattle.folding.proofs.Blocks.{InFactors, shifted, tensor_blocks, carry_blocks, last_columns}
 use Rattle.folding.proofs.Folds.{all_from_nothing}

@@ -3,7 +3,7 @@ use Rattle.std.specs.Prelude.{ℕ, ◌+◌, ◌-◌, ◌*◌, not}
 use Rattle.level.specs.Element.{Element, plus}
 use Rattle.multilinear.specs.Sums.{sum, where_set}
 use Rattle.tensor_algebra.specs.Tensor.{Tensor, exterior}
-use Rattle.ring_switch.specs.Claims.{starts}
+use Rattle.multilinear.specs.Columns.{starts}
 
 -- the exterior products of block b of a table t, m entries to a block, against left factors that every block shares
 unfoldable pub block : {k : ℕ} → ℕ → (ℕ → Element k) → (ℕ → Element k) → ℕ → Tensor k

@@ -1,6 +1,10 @@
 -- An element's first 128 coordinates as sixteen bytes, and an element from sixteen bytes.
-use Rattle.std.specs.Prelude.{◌≡◌, ℕ, zero, suc, ◌+◌, ◌*◌, ◌/◌, ◌%◌, ◌^◌, ◌<◌, List, [], ◌∷◌, length, slice_index}
-use Rattle.level.specs.Element.{Element, coordinate, cut}
+use Rattle.std.specs.Prelude.{◌≡◌, ℕ, zero, suc, ◌+◌, ◌*◌, ◌/◌, ◌%◌, ◌^◌, ◌<◌, max, List, [], ◌∷◌, length, slice_index}
+use Rattle.level.specs.Element.{Element, width, coordinate, cut}
+
+-- how many bytes the coordinates of an element take: eight to a byte, and one byte where there are fewer
+abbrev pub num_bytes : ℕ → ℕ
+num_bytes k = max 1 (width k / 8)
 
 -- the lowest k base-256 digits of a number, least first
 unfoldable pub digits : ℕ → ℕ → List ℕ

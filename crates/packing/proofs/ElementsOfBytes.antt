@@ -4,14 +4,13 @@ use native.Mathlib.Nat.{mod-mod}
 use Rattle.std.proofs.lemmas.List.{get_or_append_left, get_or-append_right, get_or-take, get_or-drop}
 use Rattle.std.proofs.lemmas.Bool.{cases_lt}
 use Rattle.level.specs.Element.{Element, width, coordinate}
-use Rattle.level.specs.Bytes.{from_sixteen, Octets}
+use Rattle.level.specs.Bytes.{from_sixteen, Octets, num_bytes}
 use Rattle.level.proofs.Digits.{bytes_are_coordinates}
-use Rattle.refusals.specs.Steps.{stride}
 use Rattle.multilinear.specs.Cells.{cell, packed}
 use Rattle.multilinear.proofs.Coordinates.{by_coordinates, coordinate_gather}
 
 -- a level of whole bytes
-whole_bytes : (k : ℕ) → 3 ≤ k → 2 ^ k ≡ 8 * stride k
+whole_bytes : (k : ℕ) → 3 ≤ k → 2 ^ k ≡ 8 * num_bytes k
 whole_bytes k h =
     let e : k ≡ (k - 3) + 3 = omega arith in
     omega (arith, ap (λ i. 2 ^ i) e, pow-add 2 (k - 3) 3, pow_pos (k - 3))
@@ -44,22 +43,22 @@ module _ (bytes : List ℕ) (start len : ℕ) where
         (cases_lt j len)
 
 -- the cell of a packed element's coordinate
-cell_at : (bytes : List ℕ) (k w u : ℕ) → 3 ≤ k → cell bytes (w * width k + u) ≡ get_or bytes (w * stride k + u / 8) 0 / 2 ^ (u % 8) % 2
+cell_at : (bytes : List ℕ) (k w u : ℕ) → 3 ≤ k → cell bytes (w * width k + u) ≡ get_or bytes (w * num_bytes k + u / 8) 0 / 2 ^ (u % 8) % 2
 unfolding cell
 cell_at bytes k w u h =
     let c = w * width k + u in
-    let m = w * stride k in
-    let e : w * width k ≡ 8 * m = ap (λ n. w * n) (whole_bytes k h) ∙ mul_left_comm w 8 (stride k) in
+    let m = w * num_bytes k in
+    let e : w * width k ≡ 8 * m = ap (λ n. w * n) (whole_bytes k h) ∙ mul_left_comm w 8 (num_bytes k) in
     let row : c / 8 ≡ m + u / 8 = omega arith in
     let bit : c % 8 ≡ u % 8 = omega arith in
     ap₂ (λ i b. get_or bytes i 0 / 2 ^ b % 2) row bit
 
-pub packed_from_bytes : (k : ℕ) (bytes : List ℕ) (w len : ℕ) (bs : List ℕ) (x : Element k) → 3 ≤ k → Octets bytes → len ≡ stride k
-    → (w + 1) * stride k ≤ length bytes → bs ≡ take len (drop (w * len) bytes) ++ drop len (replicate 16 0) → x ≡ from_sixteen k bs
+pub packed_from_bytes : (k : ℕ) (bytes : List ℕ) (w len : ℕ) (bs : List ℕ) (x : Element k) → 3 ≤ k → Octets bytes → len ≡ num_bytes k
+    → (w + 1) * num_bytes k ≤ length bytes → bs ≡ take len (drop (w * len) bytes) ++ drop len (replicate 16 0) → x ≡ from_sixteen k bs
     → x ≡ packed k (cell bytes) w
 unfolding packed padded
 packed_from_bytes k bytes w len bs x h o size fits shown made =
-    let n = stride k in
+    let n = num_bytes k in
     let all : w * n + n ≤ length bytes = omega (arith, add-mul w 1 n) in
     let ps = padded bytes (w * n) n in
     let e : bs ≡ ps = shown ∙ ap (λ l. padded bytes (w * l) l) size in

@@ -6,7 +6,8 @@ ghost use Rattle.std.specs.Prelude.{◌≡◌, ◌+◌, ◌*◌, ◌/◌, ◌≤
 ghost use Rattle.multilinear.specs.Cells.{cell, packed};
 ghost use Rattle.packing.specs.Packing.{Packed};
 ghost use Rattle.refusals.specs.Refusals.{packing_refusal, refused};
-ghost use Rattle.refusals.specs.Steps.{told, stride, packing};
+ghost use Rattle.refusals.specs.Steps.{told, packing};
+ghost use Rattle.level.specs.Bytes.{num_bytes};
 
 use coordinates::num_bytes;
 use level::level::Level;
@@ -26,8 +27,8 @@ fn padded(bytes: &[u8]) -> [u8; 16]
 // Packs a table into the first of the lent elements, and says into how many.
 pub fn pack_elements<L: Level>(bits: &[u8], elements: &mut [L]) -> usize
     requires level { (3 ≤ L.Level.log) × (L.Level.log ≤ 7) }
-    requires room { length bits.now / stride L.Level.log ≤ length elements.old }
-    ensures count { result ≡ length bits.now / stride L.Level.log }
+    requires room { length bits.now / num_bytes L.Level.log ≤ length elements.old }
+    ensures count { result ≡ length bits.now / num_bytes L.Level.log }
     ensures packed { Packed L.means bits.now result elements.old elements.new }
 {
     let len = num_bytes::<L>();
@@ -42,10 +43,10 @@ pub fn pack_elements<L: Level>(bits: &[u8], elements: &mut [L]) -> usize
 // Packs a table, where it can be packed: the refusal is that of the first test that is not passed, and then the lent elements are
 // left as they were.
 pub fn pack<L: Level>(bits: &[u8], elements: &mut [L]) -> Result<usize, BitPackingError>
-    requires { length bits.now / stride (told L.Level.log) ≤ length elements.old }
+    requires { length bits.now / num_bytes (told L.Level.log) ≤ length elements.old }
     ensures refusal { refused packing_refusal result ≡ packing (told L.Level.log) (length bits.now) }
     ensures cases { MatchResult result
-        (λ count. (count ≡ length bits.now / stride (told L.Level.log)) × Packed L.means bits.now count elements.old elements.new)
+        (λ count. (count ≡ length bits.now / num_bytes (told L.Level.log)) × Packed L.means bits.now count elements.old elements.new)
         (λ _. elements.new ≡ elements.old) }
 {
     check_packing::<L>(bits.len())?;

@@ -7,7 +7,7 @@ use Rattle.level.specs.Element.{Element, zeros}
 use Rattle.level.specs.Laws.{Arithmetic}
 use Rattle.multilinear.specs.Sums.{at_bit}
 use Rattle.multilinear.specs.Cells.{standing, successor}
-use Rattle.ring_switch.specs.Claims.{ends}
+use Rattle.multilinear.specs.Columns.{ends}
 
 module _ {k : ℕ} where
   pub at_bit_clear : (b : ℕ) (x y : Element k) → b ≡ 0 → y ≡ zeros k → y ≡ at_bit b x

@@ -4,7 +4,7 @@ use Rattle.level.specs.Element.{Element, plus}
 use Rattle.level.specs.Laws.{Arithmetic}
 use Rattle.multilinear.specs.Sums.{where_set}
 use Rattle.multilinear.specs.Equality.{Point}
-use Rattle.ring_switch.specs.Claims.{starts, ends}
+use Rattle.multilinear.specs.Columns.{starts, ends}
 use Rattle.ring_switch.specs.Batching.{Stepping, settled, weight}
 use Rattle.ring_switch.specs.BatchingLaws.{RowsWithin}
 use Rattle.plain.specs.Steps.{steps}

@@ -3,7 +3,7 @@ ghost use Rattle.level.specs.Element.{plus, width};
 ghost use Rattle.multilinear.specs.Sums.{sum, where_set};
 ghost use Rattle.multilinear.specs.Equality.{equality, multilinear};
 ghost use Rattle.multilinear.specs.Cells.{cell, packed};
-ghost use Rattle.ring_switch.specs.Claims.{starts, ends};
+ghost use Rattle.multilinear.specs.Columns.{starts, ends};
 ghost use Rattle.ring_switch.specs.Batching.{settled, closing_value};
 ghost use Rattle.ring_switch.specs.BatchingLaws.{RowsWithin};
 ghost use Rattle.plain.specs.Openings.{InitialSumOf};

@@ -1,7 +1,7 @@
 ghost use Rattle.std.specs.Prelude.{◌≡◌, ℕ, ◌-◌, ◌<◌, not, length};
 ghost use Rattle.multilinear.specs.Lent.{lent};
 ghost use Rattle.multilinear.specs.Sums.{where_set};
-ghost use Rattle.ring_switch.specs.Claims.{starts};
+ghost use Rattle.multilinear.specs.Columns.{starts};
 
 use columns::Columns;
 use level::level::Level;

@@ -15,7 +15,8 @@ use Rattle.folding.proofs.Slots.{size_is}
 use Rattle.multilinear.specs.Cells.{cell}
 use Rattle.problem.specs.Task.{Task}
 use Rattle.refusals.specs.Refusals.{Refusal}
-use Rattle.refusals.specs.Steps.{told, stride, opening, width}
+use Rattle.refusals.specs.Steps.{told, opening, width}
+use Rattle.level.specs.Bytes.{num_bytes}
 use Rattle.report_lines.specs.Packing.{Packs}
 use Rattle.report_lines.specs.Opened.{Values, open_refusal, values_at}
 use Rattle.report_lines.specs.Report.{unless, variables_of, opening_text, batched_text, opened_text}
@@ -56,7 +57,7 @@ few_elements means {A} laws p view outers inners f h =
     subst (λ n. n < 2 ^ 64) (size_is means laws outers inners A.unit (rest A p view) f) (pow-lt short)
 
 -- an element of whole bytes takes an eighth of its width
-pub stride_is : (k : ℕ) → 3 ≤ k → k ≤ 7 → stride k ≡ byte_count k
+pub stride_is : (k : ℕ) → 3 ≤ k → k ≤ 7 → num_bytes k ≡ byte_count k
 stride_is k wide narrow =
     let split : 2 ^ k ≡ 2 ^ (k - 3) * 8 = let s : k ≡ (k - 3) + 3 = omega arith in ap (λ i. 2 ^ i) s ∙ pow-add 2 (k - 3) 3 in
     let whole : 2 ^ k / 8 ≡ 2 ^ (k - 3) = ap (λ n. n / 8) split ∙ mul-div_cancel (2 ^ (k - 3)) (lit< tt) in
@@ -68,10 +69,10 @@ pub matched_width : (k v n : ℕ) (view : Option ℕ) → None ≡ open_refusal 
 matched_width k v n view e = eqb-true v (n - k) (met (eqb v (n - k)) _ (both_passed (opening (told k) n view) (width (n - k) v) e).1)
 
 -- how many packed elements bytes are
-pub packed_count : (k n v : ℕ) → 3 ≤ k → Packs k n v → n / stride k ≡ 2 ^ v
+pub packed_count : (k n v : ℕ) → 3 ≤ k → Packs k n v → n / num_bytes k ≡ 2 ^ v
 packed_count k n v wide p =
     ap (λ m. n / m) (stride_is k wide p.narrow) ∙ ap (λ i. i / byte_count k) p.bytes ∙ shl-shr (2 ^ v) (min k 7 - 3)
 
 -- the log of how many there are is that of their packing
-pub log_packs : (k n m v : ℕ) (c : Cells k n) → m ≡ n / stride k → 2 ^ v ≤ m → m < 2 * 2 ^ v → Packs k n v
+pub log_packs : (k n m v : ℕ) (c : Cells k n) → m ≡ n / num_bytes k → 2 ^ v ≤ m → m < 2 * 2 ^ v → Packs k n v
 log_packs k n m v c e = packs k n c m v (e ∙ ap (λ s. n / s) (stride_is k c.wide c.narrow))

@@ -4,14 +4,14 @@ use Rattle.level.specs.Element.{Element}
 use Rattle.multilinear.specs.Cells.{cell}
 use Rattle.ring_switch.specs.ClaimLaws.{Binary}
 use Rattle.ring_switch.specs.Opening.{Prefix}
-use Rattle.refusals.specs.Steps.{stride}
+use Rattle.level.specs.Bytes.{num_bytes}
 use Rattle.report_lines.specs.Opened.{Values}
 
 -- how many packed elements bytes are
-pub count_is : (k n count : ℕ) → n ≡ count * stride k → n / stride k ≡ count
+pub count_is : (k n count : ℕ) → n ≡ count * num_bytes k → n / num_bytes k ≡ count
 count_is k n count e =
-    let some : 0 < stride k = omega arith in
-    ap (λ i. i / stride k) e ∙ mul-div_cancel count some
+    let some : 0 < num_bytes k = omega arith in
+    ap (λ i. i / num_bytes k) e ∙ mul-div_cancel count some
 
 -- values part by part
 pub same_values : {k : ℕ} (x y : Element k) (o p : Option (Element k)) (r s : Prefix) → x ≡ y → o ≡ p → r ≡ s

@@ -2,7 +2,8 @@ ghost use Rattle.std.specs.Prelude.{◌≡◌, ℕ, ◌/◌, ◌^◌, ◌<◌, �
 ghost use Rattle.multilinear.specs.Cells.{cell, packed as packed_element};
 ghost use Rattle.multilinear.specs.Lent.{lent};
 ghost use Rattle.plain.specs.Openings.{named};
-ghost use Rattle.refusals.specs.Steps.{told, stride, packing};
+ghost use Rattle.refusals.specs.Steps.{told, packing};
+ghost use Rattle.level.specs.Bytes.{num_bytes};
 ghost use Rattle.problem.specs.Task.{task_of};
 ghost use Rattle.report_lines.specs.Report.{batched_text, opened_text, report_text, Reported};
 ghost use Rattle.reduction.specs.Worked.{Worked};
@@ -84,7 +85,7 @@ fn opened_lines<L: Level>(
     packed: &[L],
 ) -> Result<(), Stop>
     requires packable { packing (told L.Level.log) (length problem.now.bits.items) ≡ None }
-    requires count { length packed.now ≡ length problem.now.bits.items / stride L.Level.log }
+    requires count { length packed.now ≡ length problem.now.bits.items / num_bytes L.Level.log }
     requires elements { (w : ℕ) → w < length packed.now → lent L.means packed.now w ≡ packed_element L.Level.log (cell problem.now.bits.items) w }
     ensures { Reported result (string_bytes out.new) (string_bytes out.old ++ opened_text L.arithmetic (task_of L.means problem.now)) }
 {

@@ -6,7 +6,7 @@ ghost use Rattle.ring_switch.specs.Opening.{low};
 ghost use Rattle.multilinear.specs.Lent.{lent};
 ghost use Rattle.ring_switch.specs.ClaimLaws.{Binary};
 ghost use Rattle.equality.specs.Tables.{Tabulated};
-ghost use Rattle.refusals.specs.Steps.{stride};
+ghost use Rattle.level.specs.Bytes.{num_bytes};
 ghost use Rattle.plain.specs.Openings.{named};
 ghost use Rattle.reduction.specs.Worked.{Worked};
 ghost use Rattle.report_lines.specs.Opened.{values_at, values_of};
@@ -24,7 +24,7 @@ use std::alloc::{AllocError, Global};
 // a second time.
 pub(crate) fn pack<L: Level>(heap: Global, bits: &[u8], count: usize) -> Result<Vec<L>, AllocError>
     requires level { (3 ≤ L.Level.log) × (L.Level.log ≤ 7) }
-    requires count { length bits.now ≡ count * stride L.Level.log }
+    requires count { length bits.now ≡ count * num_bytes L.Level.log }
     ensures count { IfOk result (λ v. length v.items ≡ count) }
     ensures elements { IfOk result (λ v. (w : ℕ) → w < count → lent L.means v.items w ≡ packed_element L.Level.log (cell bits.now) w) }
 {

@@ -1,6 +1,7 @@
 -- Which refusal each step meets, over its arguments alone: that of the first of its tests that is not passed.
 -- k is the log width that a level tells, where 8 stands for every wider level.
 use Rattle.std.specs.Prelude.{◌≡◌, ℕ, ◌-◌, ◌*◌, ◌/◌, ◌^◌, min, max, Bool, true, false, cond, not, ◌&&◌, Some, None, Decides, Option, ◌==◌, count_ones, nat_lt}
+use Rattle.level.specs.Bytes.{num_bytes}
 use Rattle.refusals.specs.Refusals.{Refusal, packing_refusal, ring_switch_refusal}
 use Rattle.refusals.specs.declared.faults.BitPackingError.{BitPackingError}
 use Rattle.refusals.specs.declared.faults.BitPackingError.TheVariants.{LevelTooWide, SubByteLevel, NotAHypercube, TooShort}
@@ -24,17 +25,13 @@ power_of_two n = count_ones n == 1
 abbrev pub PowersOfTwo : Type 0
 PowersOfTwo = (n : ℕ) → Decides (power_of_two n) ((e : ℕ) × (n ≡ 2 ^ e))
 
--- the bytes of one element, at least one
-abbrev pub stride : ℕ → ℕ
-stride k = max 1 (2 ^ k / 8)
-
 -- packing n bytes, each of eight cells
 abbrev pub packing : ℕ → ℕ → Option Refusal
 packing k n =
     cond (nat_lt 7 k) (packing_meets LevelTooWide)
     (cond (nat_lt (2 ^ k) 8) (packing_meets (SubByteLevel (2 ^ k)))
     (cond (not (power_of_two (8 * n))) (packing_meets (NotAHypercube (min (8 * n) (2 ^ 64 - 1))))
-    (cond (nat_lt n (stride k)) (packing_meets (TooShort (stride k) n)) None)))
+    (cond (nat_lt n (num_bytes k)) (packing_meets (TooShort (num_bytes k) n)) None)))
 
 -- a point of n coordinates, of which an element absorbs k
 abbrev pub wide_enough : ℕ → ℕ → Option Refusal

@@ -5,7 +5,8 @@ use lib.Pow.{pow-lt}
 use Rattle.std.proofs.lemmas.Nat.{pow-add, shl-shr, mul-le}
 use Rattle.std.proofs.lemmas.Bool.{ltb-false, not-false, cases_lt}
 use Rattle.element_text.specs.Hex.{byte_count}
-use Rattle.refusals.specs.Steps.{told, packing, power_of_two, stride}
+use Rattle.refusals.specs.Steps.{told, packing, power_of_two}
+use Rattle.level.specs.Bytes.{num_bytes}
 use Rattle.refusals.proofs.Powers.{powers_of_two}
 use Rattle.report_lines.specs.Packing.{Packs}
 use Rattle.report_lines.specs.Report.{variables_of}
@@ -32,19 +33,19 @@ packable k n e =
     let a = passed (ltb 7 (told k)) _ _ e in
     let b = passed (ltb (2 ^ told k) 8) _ _ a.1 in
     let c = passed (not (power_of_two (8 * n))) _ _ b.1 in
-    let d = passed (ltb n (stride (told k))) _ _ c.1 in
+    let d = passed (ltb n (num_bytes (told k))) _ _ c.1 in
     let narrow : k ≤ 7 = omega (arith, ltb-false 7 (told k) a.0) in
     let same : told k ≡ k = omega arith in
     let wide : 3 ≤ k = at_least_byte (cases_lt k 3) (omega (arith, ltb-false (2 ^ told k) 8 b.0, ap (λ i. 2 ^ i) same)) in
     let p = (powers_of_two (8 * n)).0 (not-false _ c.0) in
     let split : 2 ^ k ≡ 2 ^ (k - 3) * 8 = let s : k ≡ (k - 3) + 3 = omega arith in ap (λ i. 2 ^ i) s ∙ pow-add 2 (k - 3) 3 in
-    let full : stride (told k) ≤ n = ltb-false n (stride (told k)) d.0 in
+    let full : num_bytes (told k) ≤ n = ltb-false n (num_bytes (told k)) d.0 in
     record {
       narrow = narrow;
       wide = wide;
       log = p.0;
       cells = p.1;
-      enough = log_le k p.0 (omega (arith, full, ap stride same, p.1, split, pow_pos p.0));
+      enough = log_le k p.0 (omega (arith, full, ap num_bytes same, p.1, split, pow_pos p.0));
     }
   where
     at_least_byte : (k < 3) ⊎ (3 ≤ k) → 8 ≤ 2 ^ k → 3 ≤ k

@@ -16,7 +16,8 @@ use Rattle.tensor_algebra.specs.Tensor.{exterior, product, batch_rows, equality_
 use Rattle.tensor_algebra.proofs.Kept.{where_in, where_out}
 use Rattle.tensor_algebra.proofs.Tables.{entry_last}
 use Rattle.tensor_algebra.proofs.Factors.{exteriors, equality_exteriors, successor_exteriors, factors_exteriors}
-use Rattle.ring_switch.specs.Claims.{starts, ends, tensor, carry, last}
+use Rattle.ring_switch.specs.Claims.{tensor, carry, last}
+use Rattle.multilinear.specs.Columns.{starts, ends}
 use Rattle.ring_switch.specs.Batching.{Stepping, weight, successor_rows, initial_sum, carry_element, last_element, closing_value}
 use Rattle.ring_switch.specs.BatchingLaws.{RowsWithin, ClosingElementsAreTensors, ClosingIsMultilinear}
 use Rattle.ring_switch.proofs.Initial.{initial_weighted}

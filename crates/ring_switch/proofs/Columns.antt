@@ -10,9 +10,10 @@ use Rattle.multilinear.specs.Cells.{standing, packed}
 use Rattle.multilinear.proofs.Sums.{sum_same, sum_exchange, sum_times, at_bit_times}
 use Rattle.multilinear.proofs.Coordinates.{coordinate_gather, gather_sum, gather_at_bit}
 use Rattle.multilinear.proofs.Entries.{entry_parts}
-use Rattle.tensor_algebra.specs.Tensor.{exterior, column}
+use Rattle.tensor_algebra.specs.Tensor.{exterior, column, by_columns}
 use Rattle.ring_switch.specs.Opening.{high, low}
-use Rattle.ring_switch.specs.Claims.{starts, ends, tensor, carry, last, by_columns}
+use Rattle.ring_switch.specs.Claims.{tensor, carry, last}
+use Rattle.multilinear.specs.Columns.{starts, ends}
 use Rattle.ring_switch.specs.Slots.{packed_count}
 use Rattle.ring_switch.specs.ClaimLaws.{Binary}
 use Rattle.ring_switch.proofs.SlotPrefix.{low_length}

@@ -5,7 +5,7 @@ use lib.Arith.{digits_div, digits_mod}
 use lib.Pow.{mod-pow-add, ones_split, ones_lt}
 use Rattle.std.proofs.lemmas.Bool.{eq-eqb, ne_eqb, eqb-false, cases_eq}
 use Rattle.std.proofs.lemmas.Bool.Decides.{same_from_decides, Decides-eqb, Decides-like, Decides-and}
-use Rattle.ring_switch.specs.Claims.{starts, ends}
+use Rattle.multilinear.specs.Columns.{starts, ends}
 
 -- a multiple of a number added changes no remainder
 pub shift_mod : (s i m : ℕ) → s % m ≡ 0 → (s + i) % m ≡ i % m

@@ -9,7 +9,8 @@ use Rattle.multilinear.specs.Equality.{Point, equality}
 use Rattle.multilinear.proofs.Sums.{sum_same, sum_plus, times_sum, times_where}
 use Rattle.tensor_algebra.specs.Tensor.{subset_sum}
 use Rattle.tensor_algebra.proofs.Rows.{batch_exteriors}
-use Rattle.ring_switch.specs.Claims.{starts, ends, tensor, carry, last}
+use Rattle.ring_switch.specs.Claims.{tensor, carry, last}
+use Rattle.multilinear.specs.Columns.{starts, ends}
 use Rattle.ring_switch.specs.Batching.{Stepping, settled, weight, successor_rows, initial_sum}
 use Rattle.ring_switch.specs.BatchingLaws.{RowsAreBatched, StepsOver, InitialSumIsWeighted}
 

@@ -10,7 +10,8 @@ use Rattle.multilinear.proofs.Coordinates.{coordinate_zeros}
 use Rattle.multilinear.proofs.Windows.{sum_window, where_same, where_none}
 use Rattle.tensor_algebra.specs.Tensor.{exterior}
 use Rattle.ring_switch.specs.Opening.{View, high, prefix, rest, slot_start, limit}
-use Rattle.ring_switch.specs.Claims.{starts, ends, tensor, carry, last}
+use Rattle.ring_switch.specs.Claims.{tensor, carry, last}
+use Rattle.multilinear.specs.Columns.{starts, ends}
 use Rattle.ring_switch.specs.Slots.{Slot, SteppedSlot, packed_count, slot_count}
 use Rattle.ring_switch.proofs.ColumnsBounds.{shift_mod, before_in, pow_multiple, pow_mod}
 use Rattle.ring_switch.proofs.SlotPrefix.{high_length, prefix_selected, prefix_limit, after_within, after_inside, after_outside}

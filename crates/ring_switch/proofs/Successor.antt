@@ -11,9 +11,10 @@ use Rattle.multilinear.specs.Equality.{Point, equality, multilinear}
 use Rattle.multilinear.specs.Cells.{standing, one_row_on}
 use Rattle.multilinear.proofs.Sums.{sum_same, sum_plus, sum_rows, at_bit_plus, times_sum, times_at_bit, times_where}
 use Rattle.multilinear.proofs.Windows.{sum_single, where_same, where_and, where_not_and, at_bit_where}
-use Rattle.tensor_algebra.specs.Tensor.{Tensor, column}
+use Rattle.tensor_algebra.specs.Tensor.{Tensor, column, by_columns}
 use Rattle.ring_switch.specs.Opening.{high, low}
-use Rattle.ring_switch.specs.Claims.{starts, ends, by_columns, inside, across, successor_claim}
+use Rattle.ring_switch.specs.Claims.{inside, across, successor_claim}
+use Rattle.multilinear.specs.Columns.{starts, ends}
 use Rattle.ring_switch.specs.Slots.{packed_count}
 use Rattle.ring_switch.specs.ClaimLaws.{Binary, opened, opened_carry, opened_last, SuccessorIsMultilinear}
 use Rattle.ring_switch.proofs.ColumnsBounds.{shift_mod, pow_multiple, pow_mod, starts_not, starts_split, ends_split}

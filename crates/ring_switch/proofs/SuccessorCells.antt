@@ -8,7 +8,7 @@ use Rattle.multilinear.specs.Sums.{sum, where_set, at_bit}
 use Rattle.multilinear.specs.Cells.{successor, one_row_on}
 use Rattle.multilinear.proofs.Sums.{sum_same, sum_plus, sum_first, at_bit_plus}
 use Rattle.multilinear.proofs.Windows.{at_bit_where}
-use Rattle.ring_switch.specs.Claims.{starts, ends}
+use Rattle.multilinear.specs.Columns.{starts, ends}
 use Rattle.ring_switch.proofs.ColumnsBounds.{starts_suc}
 
 module _ {k : ℕ} where

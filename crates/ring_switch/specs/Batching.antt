@@ -5,7 +5,7 @@ use Rattle.level.specs.Laws.{Arithmetic}
 use Rattle.multilinear.specs.Sums.{where_set}
 use Rattle.multilinear.specs.Equality.{Point, equality}
 use Rattle.tensor_algebra.specs.Tensor.{Tensor, exterior, product, subset_sum, batch_rows, equality_element, successor_element, equality_factors}
-use Rattle.ring_switch.specs.Claims.{starts, ends}
+use Rattle.multilinear.specs.Columns.{starts, ends}
 
 -- what a batching with successor tensors adds: how many row variables the packing keeps, and the challenge α
 pub record Stepping (k : ℕ) : Type 0 where

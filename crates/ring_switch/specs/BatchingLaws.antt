@@ -5,7 +5,8 @@ use Rattle.level.specs.Laws.{Arithmetic, Laws}
 use Rattle.multilinear.specs.Sums.{sum, where_set}
 use Rattle.multilinear.specs.Equality.{Point, equality, multilinear}
 use Rattle.tensor_algebra.specs.Tensor.{subset_sum, batch_rows, equality_element}
-use Rattle.ring_switch.specs.Claims.{starts, ends, tensor, carry, last}
+use Rattle.ring_switch.specs.Claims.{tensor, carry, last}
+use Rattle.multilinear.specs.Columns.{starts, ends}
 use Rattle.ring_switch.specs.Batching.{Stepping, weight, initial_sum, carry_element, last_element, closing_value}
 
 -- the batched rows of the tensor of a table e and packed elements t: each packed element times the batching weights of the set

@@ -4,7 +4,8 @@ use Rattle.level.specs.Element.{Element, zeros}
 use Rattle.level.specs.Laws.{Arithmetic}
 use Rattle.multilinear.specs.Equality.{Point, equality}
 use Rattle.ring_switch.specs.Opening.{View, high, prefix, rest, slot_start}
-use Rattle.ring_switch.specs.Claims.{starts, ends, tensor, carry, last}
+use Rattle.ring_switch.specs.Claims.{tensor, carry, last}
+use Rattle.multilinear.specs.Columns.{starts, ends}
 
 -- how many packed elements a table has, and how many of them the slot
 abbrev pub packed_count : {k : ℕ} → Point k → ℕ

@@ -1,8 +1,7 @@
 ghost use Rattle.std.specs.Prelude.{◌≡◌, ◌<◌, ◌≤◌, map, length};
 ghost use Rattle.level.specs.Element.{width};
 ghost use Rattle.multilinear.specs.Lent.{lent};
-ghost use Rattle.tensor_algebra.specs.Tensor.{nothing, one, exterior, add, column, scale_rows, scale_columns, equality_factor, batch_rows, equality_element, successor_element, equality_factors};
-ghost use Rattle.ring_switch.specs.Claims.{by_columns};
+ghost use Rattle.tensor_algebra.specs.Tensor.{nothing, one, exterior, add, column, scale_rows, scale_columns, equality_factor, batch_rows, equality_element, successor_element, equality_factors, by_columns};
 
 use crate::{equality, successor};
 use coordinates::per_coordinate::PerCoordinate;

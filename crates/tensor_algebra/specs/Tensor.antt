@@ -84,3 +84,7 @@ subset_sum {k} f x = sum (width k) (λ u. at_bit (coordinate x u) (f u))
 -- the rows of a tensor, each times a weight
 unfoldable pub batch_rows : {k : ℕ} → Arithmetic k → (ℕ → Element k) → Tensor k → Element k
 batch_rows {k} A f t = sum (width k) (λ u. A.times (f u) (t u))
+
+-- the columns of a tensor, each times a weight
+unfoldable pub by_columns : {k : ℕ} → Arithmetic k → (ℕ → Element k) → Tensor k → Element k
+by_columns {k} A f t = sum (width k) (λ v. A.times (column t v) (f v))

@@ -5,10 +5,9 @@ use Rattle.level.specs.Laws.{Arithmetic, Laws}
 use Rattle.multilinear.specs.Sums.{sum, at_bit}
 use Rattle.multilinear.proofs.Sums.{sum_same, sum_exchange, sum_times, times_sum, at_bit_times, times_at_bit}
 use Rattle.multilinear.proofs.Coordinates.{coordinate_gather, coordinate_mod}
-use Rattle.tensor_algebra.specs.Tensor.{Tensor, column, subset_sum}
+use Rattle.tensor_algebra.specs.Tensor.{Tensor, column, subset_sum, by_columns}
 use Rattle.tensor_algebra.specs.Subsets.{basis}
 use Rattle.tensor_algebra.proofs.Basis.{by_basis}
-use Rattle.ring_switch.specs.Claims.{by_columns}
 
 module _ {k : ℕ} where
   -- a coordinate of a column

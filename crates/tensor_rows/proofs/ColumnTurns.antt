@@ -13,9 +13,8 @@ use Rattle.multilinear.proofs.Lent.{lent_read, lent_past}
 use Rattle.multilinear.proofs.Sums.{at_bit_zeros}
 use Rattle.multilinear.proofs.Coordinates.{coordinate_mod}
 use Rattle.tensor_algebra.specs.Subsets.{basis}
-use Rattle.tensor_algebra.specs.Tensor.{Tensor, nothing, exterior, add, column, scale_rows, scale_columns, equality_factor, subset_sum}
+use Rattle.tensor_algebra.specs.Tensor.{Tensor, nothing, exterior, add, column, scale_rows, scale_columns, equality_factor, subset_sum, by_columns}
 use Rattle.tensor_algebra.proofs.BucketSums.{scale_columns_rows}
-use Rattle.ring_switch.specs.Claims.{by_columns}
 use Rattle.multilinear.proofs.Places.{Written, written_read, written_more, written_all}
 use Rattle.tensor_rows.proofs.Tensors.{add_past, scale_rows_past, nothing_add, digit_set}
 use Rattle.tensor_rows.proofs.ColumnSums.{columns_by_rows}

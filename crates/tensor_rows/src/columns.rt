@@ -3,8 +3,7 @@ ghost use Rattle.level.specs.Element.{plus, width, coordinate, zeros};
 ghost use Rattle.multilinear.specs.Gathered.{binary};
 ghost use Rattle.multilinear.specs.Lent.{lent};
 ghost use Rattle.tensor_algebra.specs.Subsets.{basis};
-ghost use Rattle.tensor_algebra.specs.Tensor.{nothing, exterior, add, column, scale_rows, scale_columns, equality_factor, subset_sum};
-ghost use Rattle.ring_switch.specs.Claims.{by_columns};
+ghost use Rattle.tensor_algebra.specs.Tensor.{nothing, exterior, add, column, scale_rows, scale_columns, equality_factor, subset_sum, by_columns};
 
 use crate::rows::{add_exterior_product, add_where, clear};
 use coordinates::per_coordinate::PerCoordinate;

@@ -12,7 +12,7 @@ use Rattle.multilinear.specs.Sums.{where_set}
 use Rattle.multilinear.proofs.Lent.{lent_read, lent_written, lent_kept}
 use Rattle.multilinear.proofs.Windows.{where_same}
 use Rattle.multilinear.proofs.Places.{Written, before_part, in_part, past_part, of_part}
-use Rattle.ring_switch.specs.Claims.{starts, ends}
+use Rattle.multilinear.specs.Columns.{starts, ends}
 use Rattle.ring_switch.proofs.ColumnsBounds.{starts_suc}
 use Rattle.weights.specs.Stepped.{ended, carried, stepped}
 

@@ -8,7 +8,7 @@ use Rattle.multilinear.specs.Lent.{lent}
 use Rattle.multilinear.specs.Sums.{where_set}
 use Rattle.multilinear.proofs.Lent.{lent_read}
 use Rattle.tensor_algebra.specs.Tensor.{subset_sum}
-use Rattle.ring_switch.specs.Claims.{starts, ends}
+use Rattle.multilinear.specs.Columns.{starts, ends}
 use Rattle.ring_switch.specs.Batching.{Stepping, settled, weight}
 use Rattle.weights.specs.Stepped.{stepped}
 use Rattle.tensor_algebra.proofs.SubsetSums.{subset_sums_are_linear}

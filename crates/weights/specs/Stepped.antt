@@ -3,7 +3,7 @@ use Rattle.std.specs.Prelude.{ℕ, ◌-◌, not}
 use Rattle.level.specs.Element.{Element, plus}
 use Rattle.level.specs.Laws.{Arithmetic}
 use Rattle.multilinear.specs.Sums.{where_set}
-use Rattle.ring_switch.specs.Claims.{starts, ends}
+use Rattle.multilinear.specs.Columns.{starts, ends}
 
 -- With s the settled weights and challenge α: s(i), plus α·s(i - 1) unless i starts a column of 2^r entries, plus α²·s(i) if it ends one.
 unfoldable pub stepped : {k : ℕ} → Arithmetic k → ℕ → Element k → (ℕ → Element k) → ℕ → Element k

@@ -3,7 +3,8 @@ ghost use Rattle.level.specs.Element.{Element};
 ghost use Rattle.multilinear.specs.Equality.{Point, entry};
 ghost use Rattle.multilinear.specs.Lent.{lent};
 ghost use Rattle.tensor_algebra.specs.Tensor.{nothing, subset_sum};
-ghost use Rattle.basis.specs.Tables.{num_bytes, Tabulated};
+ghost use Rattle.basis.specs.Tables.{Tabulated};
+ghost use Rattle.level.specs.Bytes.{num_bytes};
 ghost use Rattle.equality.specs.Tables.{Factors};
 
 use basis::coordinate_sums::{CoordinateSums, scaled_sums_into, tabulate};

@@ -4,7 +4,7 @@ ghost use Rattle.multilinear.specs.Lent.{lent};
 ghost use Rattle.tensor_algebra.specs.Tensor.{nothing};
 ghost use Rattle.ring_switch.specs.Batching.{weight};
 ghost use Rattle.ring_switch.specs.BatchingLaws.{RowsWithin};
-ghost use Rattle.basis.specs.Tables.{num_bytes};
+ghost use Rattle.level.specs.Bytes.{num_bytes};
 ghost use Rattle.equality.specs.Tables.{Factors};
 ghost use Rattle.plain.specs.Steps.{steps};
 

@@ -8,9 +8,9 @@ use Rattle.multilinear.specs.Sums.{sum, at_bit, where_set}
 use Rattle.multilinear.specs.Gathered.{binary}
 use Rattle.multilinear.specs.Cells.{cell, standing, packed, gather, successor, one_row_on}
 use Rattle.multilinear.specs.Equality.{entry, factor, multilinear}
-use Rattle.tensor_algebra.specs.Tensor.{exterior, column, add, nothing, one, first_leg, second_leg, scale_rows, scale_columns, equality_factor, product, equality_element, successor_element, equality_factors, subset_sum, batch_rows}
+use Rattle.tensor_algebra.specs.Tensor.{exterior, column, add, nothing, one, first_leg, second_leg, scale_rows, scale_columns, equality_factor, product, equality_element, successor_element, equality_factors, subset_sum, batch_rows, by_columns}
 use Rattle.ring_switch.specs.Opening.{kept, limit, selects, lead, run, prefix, rest, slot_start}
-use Rattle.ring_switch.specs.Claims.{tensor, carry, last, incoming, successor_claim, by_columns, inside, across}
+use Rattle.ring_switch.specs.Claims.{tensor, carry, last, incoming, successor_claim, inside, across}
 use Rattle.ring_switch.specs.Batching.{settled, weight, successor_rows, initial_sum, carry_element, last_element, closing_value}
 use Rattle.worked.specs.Cases.{Worked}
 

@@ -1,7 +1,7 @@
 use Rattle.std.proofs.Common.{◌≡◌, ℕ, ◌-◌, ◌<◌, not}
 use Rattle.multilinear.specs.Lent.{lent}
 use Rattle.multilinear.specs.Sums.{where_set}
-use Rattle.ring_switch.specs.Claims.{starts}
+use Rattle.multilinear.specs.Columns.{starts}
 use Rattle.products.proofs.shifting.shifted.Given as goal
 
 abbrev pub invariant-loop-j : goal.invariant-loop-j

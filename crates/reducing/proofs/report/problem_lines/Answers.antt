@@ -5,7 +5,8 @@ use Rattle.element_text.specs.Hex.{element_text}
 use Rattle.multilinear.specs.Cells.{cell, packed}
 use Rattle.multilinear.specs.Lent.{lent}
 use Rattle.problem.specs.Task.{task_of}
-use Rattle.refusals.specs.Steps.{told, stride, packing}
+use Rattle.refusals.specs.Steps.{told, packing}
+use Rattle.level.specs.Bytes.{num_bytes}
 use Rattle.report_lines.specs.Lines.{line}
 use Rattle.report_lines.specs.Report.{Reported, lines_below, packed_line}
 use Rattle.report_lines.proofs.Packed.{packable, few, variables_are}
@@ -50,7 +51,7 @@ opened_lines-requires-clause-count g c =
     let p = c.in_ok-variables.ensures.packs in
     let cells = packable m.log n c.in_ok-variables.ensures.refusal in
     let shifted = one_shl c.in_ok-variables.variables 64 (omega (arith, few _ _ _ p small)) in
-    ap length c.as_slice-2.ensures.value ∙ c.in_ok-packed.ensures.count ∙ shifted ∙ sym (packed_count _ _ _ cells.wide p) ∙ ap (λ (l : List ℕ). length l / stride m.log) bits
+    ap length c.as_slice-2.ensures.value ∙ c.in_ok-packed.ensures.count ∙ shifted ∙ sym (packed_count _ _ _ cells.wide p) ∙ ap (λ (l : List ℕ). length l / num_bytes m.log) bits
 
 pub returns : goal.returns
 returns g c =

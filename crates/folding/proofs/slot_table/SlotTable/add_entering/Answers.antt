@@ -1,7 +1,7 @@
 use Rattle.std.proofs.Common.{◌*◌, length, sym, refl, ap, ◌∙◌}
 use Rattle.multilinear.specs.Lent.{lent}
 use Rattle.multilinear.specs.Equality.{entry}
-use Rattle.ring_switch.specs.Claims.{starts}
+use Rattle.multilinear.specs.Columns.{starts}
 use Rattle.folding.proofs.Slots.{none_enters, first_enters, later_block, block_filled}
 use Rattle.folding.proofs.slot_table.SlotTable.add_entering.Goals as goal
 
