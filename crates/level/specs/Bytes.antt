@@ -16,11 +16,11 @@ unfoldable pub le_number : List ℕ → ℕ
 le_number [] = 0
 le_number (b ∷ bs) = b + 256 * le_number bs
 
--- the first 128 coordinates: bit b of byte j, b = 0 the least, is coordinate 8j + b, and 0 past the width
+-- the first 128 coordinates: coordinate 8j + b is binary digit b of byte j
 unfoldable pub sixteen : {k : ℕ} → Element k → List ℕ
 sixteen x = digits 16 x.number
 
--- the element with those coordinates, bits past the width dropped, coordinates from 128 on 0
+-- the element whose coordinates are read off so: the number's binary digits, as many as the level has coordinates
 unfoldable pub from_sixteen : (k : ℕ) → List ℕ → Element k
 from_sixteen k bs = cut k (le_number bs)
 

@@ -11,7 +11,8 @@ ghost use Rattle.level.specs.Laws.{Arithmetic, Laws};
 // Functions that need a width ask `log ≤ 7` or `3 ≤ log` in their contracts. A bound here would be asked of every level that others
 // bring, and a narrower trait of every level that reaches a report, where a wider one is refused by a test as the program runs.
 //
-// Functions by name and no operators, `==` or `From`, and sixteen bytes by value: rules of the project. `==` would compare stored forms.
+// Functions by name and no operators or `From`: equal elements may be stored in different forms, and a derived `==` would compare what is
+// stored. Sixteen bytes by value: an array is the same at every level, whatever the level stores, and asks for no memory.
 pub trait Level: Copy {
     // k
     ghost log: { ℕ };
@@ -22,8 +23,8 @@ pub trait Level: Copy {
     // the product, one and the generator
     ghost arithmetic: { Arithmetic log };
 
-    // k up to 7, and 8 for every wider level: a rule of the project, and no missing value, since packing refuses with
-    // `LevelTooWide` where this is above 7.
+    // The log width, where 8 stands for each level of more than 128 coordinates: packing refuses above 7, with `LevelTooWide`, so nothing
+    // needs to tell wider levels apart.
     fn log_width() -> u8
         ensures { result ≡ min log 8 };
 
@@ -54,11 +55,12 @@ pub trait Level: Copy {
         ensures agree { T result → means self ≡ means other }
         ensures found { means self ≡ means other → T result };
 
-    // Bit b of byte j, b = 0 the least, is coordinate 8j + b, and 0 past the width.
+    // Coordinate 8j + b is binary digit b of byte j. Digits that stand for no coordinate of the level are 0.
     fn to_bytes(self) -> [u8; 16]
         ensures { result ≡ sixteen (means self) };
 
-    // The element with those coordinates, bits past the width dropped, coordinates from 128 on 0.
+    // The element whose coordinates are read off so: digits that stand for no coordinate are ignored, and coordinates that sixteen bytes do
+    // not reach are 0.
     fn from_bytes(bytes: [u8; 16]) -> Self
         ensures { means result ≡ from_sixteen log bytes };
 
