@@ -22,7 +22,7 @@ pub enum LevelName {
 #[derive(Clone, Copy, Debug, PartialEq, Eq, Hash)]
 pub struct UnknownLetter(pub char);
 
-// The level that a letter names, matched as a `char`: a rule of the project.
+// The level that a letter names. A `char`, as a letter is in a text: a byte is made one by its caller.
 impl TryFrom<char> for LevelName {
     type Error = UnknownLetter;
 
