@@ -18,8 +18,8 @@ use Rattle.tensor_algebra.proofs.Tables.{entry_last}
 use Rattle.tensor_algebra.proofs.Factors.{exteriors, equality_exteriors, successor_exteriors, factors_exteriors}
 use Rattle.ring_switch.specs.Claims.{tensor, carry, last}
 use Rattle.multilinear.specs.Columns.{starts, ends}
-use Rattle.ring_switch.specs.Batching.{Stepping, weight, successor_rows, initial_sum, carry_element, last_element, closing_value}
-use Rattle.ring_switch.specs.BatchingLaws.{RowsWithin, ClosingElementsAreTensors, ClosingIsMultilinear}
+use Rattle.ring_switch.specs.Batching.{weight, successor_rows, initial_sum, carry_element, last_element, closing_value}
+use Rattle.ring_switch.specs.BatchingLaws.{ClosingElementsAreTensors, ClosingIsMultilinear}
 use Rattle.ring_switch.proofs.Initial.{initial_weighted}
 
 module _ {k : ℕ} {A : Arithmetic k} (laws : Laws A) where
@@ -130,16 +130,16 @@ module _ {k : ℕ} {A : Arithmetic k} (laws : Laws A) where
       ap (λ l. sum (2 ^ l) (λ i. A.times (equality A z i) (w i))) (sym e)
       ∙ sum_same (2 ^ length z) _ _ (λ i _. laws.times_comm (equality A z i) (w i))
 
-  pub closing_multilinear : (f : ℕ → Element k) (slot : Point k) (b : Option (Stepping k)) → RowsWithin b (length slot)
-      → (z : Point k) → length z ≡ length slot → closing_value A f slot b z ≡ multilinear A (weight A f slot b) z
+  pub closing_multilinear : (f : ℕ → Element k) (slot : Point k) (r : ℕ) → r ≤ length slot → (α : Option (Element k))
+      → (z : Point k) → length z ≡ length slot → closing_value A f slot r α z ≡ multilinear A (weight A f (equality A slot) r α) z
   unfolding closing_value initial_sum
-  closing_multilinear f slot None h z e =
+  closing_multilinear f slot r h None z e =
       ap (batch_rows A f) (equality_is_tensor slot z e)
-      ∙ initial_weighted laws f slot None 0 tt (2 ^ length slot) (equality A z) ∙ weights_at _ slot z e
-  closing_multilinear f slot (Some b) h z e =
+      ∙ initial_weighted laws f (equality A slot) r None (2 ^ length slot) (equality A z) ∙ weights_at _ slot z e
+  closing_multilinear f slot r h (Some α) z e =
       ap₂ (λ t s. plus (batch_rows A f t) s) (equality_is_tensor slot z e)
-      (ap₂ (successor_rows A f b.challenge) (carry_is slot z b.rows h e) (last_is slot z b.rows h e))
-      ∙ initial_weighted laws f slot (Some b) b.rows refl (2 ^ length slot) (equality A z) ∙ weights_at _ slot z e
+      (ap₂ (successor_rows A f α) (carry_is slot z r h e) (last_is slot z r h e))
+      ∙ initial_weighted laws f (equality A slot) r (Some α) (2 ^ length slot) (equality A z) ∙ weights_at _ slot z e
 
 pub closing_elements_are_tensors : ClosingElementsAreTensors
 closing_elements_are_tensors = record {

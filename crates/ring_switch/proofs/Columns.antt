@@ -11,7 +11,7 @@ use Rattle.multilinear.proofs.Sums.{sum_same, sum_exchange, sum_times, at_bit_ti
 use Rattle.multilinear.proofs.Coordinates.{coordinate_gather, gather_sum, gather_at_bit}
 use Rattle.multilinear.proofs.Entries.{entry_parts}
 use Rattle.tensor_algebra.specs.Tensor.{exterior, column, by_columns}
-use Rattle.ring_switch.specs.Opening.{high, low}
+use Rattle.ring_switch.specs.Opening.{Opening, variables, high, low}
 use Rattle.ring_switch.specs.Claims.{tensor, carry, last}
 use Rattle.multilinear.specs.Columns.{starts, ends}
 use Rattle.ring_switch.specs.Slots.{packed_count}
@@ -62,17 +62,17 @@ module _ {k : ℕ} (bits : ℕ → ℕ) (binary : Binary bits) where
   last_column r n e v h = tested_column n (ends r) e v h
 
 -- the cells of a table, element by element
-pub cell_count : {k : ℕ} (p : Point k) → k ≤ length p → 2 ^ length p ≡ packed_count p * width k
-cell_count {k} p h = let e : length p ≡ length p - k + k = omega arith in ap (λ n. 2 ^ n) e ∙ pow-add 2 (length p - k) k
+pub cell_count : {k : ℕ} (o : Opening k) → k ≤ length o.point → 2 ^ length o.point ≡ packed_count o * width k
+cell_count {k} o h = let e : length o.point ≡ variables o + k = omega arith in ap (λ n. 2 ^ n) e ∙ pow-add 2 (variables o) k
 
 module _ {k : ℕ} {A : Arithmetic k} (laws : Laws A) where
   -- the entry of a cell
-  pub cell_entry : (p : Point k) → k ≤ length p → (w v : ℕ) → v < width k
-      → equality A p (w * width k + v) ≡ A.times (equality A (high p) w) (equality A (low p) v)
-  cell_entry p h w v l =
-      let e = sym (low_length p h) in
-      ap₂ (equality A) (sym (take-append-drop (length p - k) p)) (ap (λ i. w * 2 ^ i + v) e)
-      ∙ entry_parts laws A.unit (high p) (low p) w v (subst (λ i. v < 2 ^ i) e l)
+  pub cell_entry : (o : Opening k) → k ≤ length o.point → (w v : ℕ) → v < width k
+      → equality A o.point (w * width k + v) ≡ A.times (equality A (high o) w) (equality A (low o) v)
+  cell_entry o h w v l =
+      let e = sym (low_length o h) in
+      ap₂ (equality A) (sym (take-append-drop (variables o) o.point)) (ap (λ i. w * 2 ^ i + v) e)
+      ∙ entry_parts laws A.unit (high o) (low o) w v (subst (λ i. v < 2 ^ i) e l)
 
   -- a bit as an element, times another
   standing_times : (b : ℕ) (x : Element k) → A.times (standing A b) x ≡ at_bit b x

@@ -5,14 +5,13 @@ use Rattle.level.specs.Laws.{Arithmetic, Laws}
 use Rattle.level.proofs.Elements.{plus_assoc}
 use Rattle.level.proofs.Ring.{times_left_comm}
 use Rattle.multilinear.specs.Sums.{sum, where_set}
-use Rattle.multilinear.specs.Equality.{Point, equality}
 use Rattle.multilinear.proofs.Sums.{sum_same, sum_plus, times_sum, times_where}
 use Rattle.tensor_algebra.specs.Tensor.{subset_sum}
 use Rattle.tensor_algebra.proofs.Rows.{batch_exteriors}
 use Rattle.ring_switch.specs.Claims.{tensor, carry, last}
 use Rattle.multilinear.specs.Columns.{starts, ends}
-use Rattle.ring_switch.specs.Batching.{Stepping, settled, weight, successor_rows, initial_sum}
-use Rattle.ring_switch.specs.BatchingLaws.{RowsAreBatched, StepsOver, InitialSumIsWeighted}
+use Rattle.ring_switch.specs.Batching.{settled, weight, successor_rows, initial_sum}
+use Rattle.ring_switch.specs.BatchingLaws.{RowsAreBatched, InitialSumIsWeighted}
 
 pub rows_are_batched : RowsAreBatched
 unfolding tensor carry last where_set
@@ -40,25 +39,18 @@ module _ {k : ℕ} {A : Arithmetic k} (laws : Laws A) where
       ∙ sym (sum_plus n (λ i. A.times α (y i)) (λ i. A.times α (A.times α (z i)))))
       ∙ sym (sum_plus n x (λ i. plus (A.times α (y i)) (A.times α (A.times α (z i)))))
 
-  pub initial_weighted : (f : ℕ → Element k) (slot : Point k) (b : Option (Stepping k)) (r : ℕ) → StepsOver b r
-      → (n : ℕ) (t : ℕ → Element k)
-      → initial_sum A f b (tensor n (equality A slot) t) (carry r n (equality A slot) t) (last r n (equality A slot) t)
-      ≡ sum n (λ i. A.times (t i) (weight A f slot b i))
+  pub initial_weighted : (f e : ℕ → Element k) (r : ℕ) (α : Option (Element k)) (n : ℕ) (t : ℕ → Element k)
+      → initial_sum A f α (tensor n e t) (carry r n e t) (last r n e t) ≡ sum n (λ i. A.times (t i) (weight A f e r α i))
   unfolding initial_sum successor_rows weight settled
-  initial_weighted f slot None r _ n t = rows_are_batched.of_tensor laws f (equality A slot) t n
-  initial_weighted f slot (Some b) r q n t =
-      rw (← q)
-      (ap₂ plus (rows_are_batched.of_tensor laws f e t n)
-      (ap₂ (λ y z. A.times b.challenge (plus y (A.times b.challenge z)))
-      (rows_are_batched.of_carry laws f e t b.rows n) (rows_are_batched.of_last laws f e t b.rows n))
-      ∙ successor_sum b.challenge n _ _ _
-      ∙ sum_same n _ _ (λ i _. weighted b.challenge (t i) (s i) (s (i - 1)) (not (starts b.rows i)) (ends b.rows i)))
+  initial_weighted f e r None n t = rows_are_batched.of_tensor laws f e t n
+  initial_weighted f e r (Some α) n t =
+      ap₂ plus (rows_are_batched.of_tensor laws f e t n)
+      (ap₂ (λ y z. A.times α (plus y (A.times α z))) (rows_are_batched.of_carry laws f e t r n) (rows_are_batched.of_last laws f e t r n))
+      ∙ successor_sum α n _ _ _
+      ∙ sum_same n _ _ (λ i _. weighted α (t i) (s i) (s (i - 1)) (not (starts r i)) (ends r i))
     where
-      e : ℕ → Element k
-      e = equality A slot
-
       s : ℕ → Element k
-      s i = subset_sum f (equality A slot i)
+      s i = subset_sum f (e i)
 
 pub initial_sum_is_weighted : InitialSumIsWeighted
 initial_sum_is_weighted k A laws = initial_weighted laws

@@ -11,14 +11,14 @@ use Rattle.level.proofs.Elements.{same, zeros_is, plus_zeros, plus_self}
 use Rattle.level.proofs.Ring.{unit_times, zeros_times, times_zeros}
 use Rattle.multilinear.specs.Equality.{Point, factor, entry, equality}
 use Rattle.multilinear.proofs.Entries.{entry_agree, entry_parts}
-use Rattle.ring_switch.specs.Opening.{Prefix, View, selects, lead, run, prefix, limit, high, low}
+use Rattle.ring_switch.specs.Opening.{Prefix, Opening, variables, selects, lead, run, prefix, limit, high, low}
 
 -- how many coordinates the packing keeps, and how many it absorbs
-pub high_length : {k : ℕ} (p : Point k) → length (high p) ≡ length p - k
-high_length {k} p = length-take-le (length p - k) p (omega arith)
+pub high_length : {k : ℕ} (o : Opening k) → length (high o) ≡ variables o
+high_length o = length-take-le (variables o) o.point (omega arith)
 
-pub low_length : {k : ℕ} (p : Point k) → k ≤ length p → length (low p) ≡ k
-low_length {k} p h = omega (arith, length-drop (length p - k) p)
+pub low_length : {k : ℕ} (o : Opening k) → k ≤ length o.point → length (low o) ≡ k
+low_length o h = omega (arith, length-drop (variables o) o.point)
 
 -- a run's coordinates have the entry one at the run's address, and zero elsewhere
 pub record Selected {k : ℕ} (A : Arithmetic k) (p : Point k) (r : Prefix) : Type 0 where
@@ -143,16 +143,18 @@ module _ {k : ℕ} {A : Arithmetic k} (laws : Laws A) where
         elsewhere = λ j g m. ap (λ q. equality A q j) (sym e) ∙ s.elsewhere j g m;
       }
 
-  pub prefix_selected : (p : Point k) (view : View) → Selected A (high p) (prefix A p view)
+  pub prefix_selected : (o : Opening k) → Selected A (high o) (prefix A o)
   unfolding prefix
-  prefix_selected p view = selected_take (limit k (length p) view) (high p) _ (run_selected (take (limit k (length p) view) (high p)))
+  prefix_selected o =
+      let n = limit k (length o.point) o.view in
+      selected_take n (high o) _ (run_selected (take n (high o)))
 
   -- the prefix stays within its limit
-  pub prefix_limit : (p : Point k) (view : View) → (prefix A p view).count ≤ limit k (length p) view
+  pub prefix_limit : (o : Opening k) → (prefix A o).count ≤ limit k (length o.point) o.view
   unfolding prefix
-  prefix_limit p view =
-      let n = limit k (length p) view in
-      omega (arith, (run_selected (take n (high p))).within, length-take n (high p))
+  prefix_limit o =
+      let n = limit k (length o.point) o.view in
+      omega (arith, (run_selected (take n (high o))).within, length-take n (high o))
 
   -- The entries of a point whose first coordinates are selected: those of the others from the address on, and zero elsewhere.
   module _ (p : Point k) (r : Prefix) (s : Selected A p r) where

@@ -4,15 +4,14 @@ use Rattle.std.proofs.lemmas.Bool.{not-true, eqb-false}
 use Rattle.level.specs.Element.{Element, zeros}
 use Rattle.level.specs.Laws.{Arithmetic, Laws}
 use Rattle.multilinear.specs.Sums.{where_set, at_bit}
-use Rattle.multilinear.specs.Equality.{Point, equality}
 use Rattle.multilinear.proofs.Sums.{sum_same}
 use Rattle.multilinear.proofs.Coordinates.{coordinate_zeros}
 use Rattle.multilinear.proofs.Windows.{sum_window, where_same, where_none}
 use Rattle.tensor_algebra.specs.Tensor.{exterior}
-use Rattle.ring_switch.specs.Opening.{View, high, prefix, rest, slot_start, limit}
+use Rattle.ring_switch.specs.Opening.{Opening, named, high, kept_rows, prefix, rest, slot_start, limit}
 use Rattle.ring_switch.specs.Claims.{tensor, carry, last}
 use Rattle.multilinear.specs.Columns.{starts, ends}
-use Rattle.ring_switch.specs.Slots.{Slot, SteppedSlot, packed_count, slot_count}
+use Rattle.ring_switch.specs.Slots.{Slot, SteppedSlot, packed_count, slot_count, table, slot_table}
 use Rattle.ring_switch.proofs.ColumnsBounds.{shift_mod, before_in, pow_multiple, pow_mod}
 use Rattle.ring_switch.proofs.SlotPrefix.{high_length, prefix_selected, prefix_limit, after_within, after_inside, after_outside}
 
@@ -61,50 +60,50 @@ module _ {k : ℕ} where
         inner : (i : ℕ) → i < l → starts r i ≡ false → exterior (e (s + i - 1)) (t (s + i)) u ≡ exterior (e' (i - 1)) (t (s + i)) u
         inner i h y = ap (λ x. exterior x (t (s + i)) u) (ap e (before_in r s i y) ∙ o.inside (i - 1) (omega arith))
 
-module _ {k : ℕ} {A : Arithmetic k} (laws : Laws A) (p : Point k) where
-  slot_window : (view : View) → Window (equality A (high p)) (equality A (rest A p view)) (packed_count p) (slot_start A p view) (slot_count A p view)
+module _ {k : ℕ} {A : Arithmetic k} (laws : Laws A) (o : Opening k) where
+  slot_window : Window (table A o) (slot_table A o) (packed_count o) (slot_start A o) (slot_count A o)
   unfolding rest slot_start
-  slot_window view =
-      let r = prefix A p view in
-      let s = prefix_selected laws p view in
-      let e = ap (λ n. 2 ^ n) (high_length p) in
+  slot_window =
+      let r = prefix A o in
+      let s = prefix_selected laws o in
+      let e = ap (λ n. 2 ^ n) (high_length o) in
       record {
-        within = omega (arith, after_within laws (high p) r s, e);
-        inside = after_inside laws (high p) r s;
-        outside = λ w h. after_outside laws (high p) r s w (omega (arith, e));
+        within = omega (arith, after_within laws (high o) r s, e);
+        inside = after_inside laws (high o) r s;
+        outside = λ w h. after_outside laws (high o) r s w (omega (arith, e));
       }
 
-  pub slot : (view : View) → Slot A p view
+  pub slot : Slot A o
   unfolding rest
-  slot view =
-      let o = slot_window view in
+  slot =
+      let w = slot_window in
       record {
-        coordinates = length-drop ((prefix A p view).count) (high p) ∙ ap (λ n. n - (prefix A p view).count) (high_length p);
-        within = o.within;
-        inside = o.inside;
-        outside = o.outside;
-        whole_tensor = tensor_window o;
+        coordinates = length-drop ((prefix A o).count) (high o) ∙ ap (λ n. n - (prefix A o).count) (high_length o);
+        within = w.within;
+        inside = w.inside;
+        outside = w.outside;
+        whole_tensor = tensor_window w;
       }
 
-  module _ (q : ℕ) (h : q ≤ length p) where
-    rows : q - k ≤ length (rest A p (Some q))
+  module _ (h : named o.view ≤ length o.point) where
+    rows : kept_rows o ≤ length (rest A o)
     unfolding limit
-    rows = omega (arith, (slot (Some q)).coordinates, prefix_limit laws p (Some q))
+    rows = omega (arith, slot.coordinates, prefix_limit laws o)
 
-    start_aligned : slot_start A p (Some q) % 2 ^ (q - k) ≡ 0
+    start_aligned : slot_start A o % 2 ^ kept_rows o ≡ 0
     unfolding slot_start
-    start_aligned = pow_multiple ((prefix A p (Some q)).address) (length (rest A p (Some q))) (q - k) rows
+    start_aligned = pow_multiple ((prefix A o).address) (length (rest A o)) (kept_rows o) rows
 
-    pub stepped_slot : SteppedSlot A p q
+    pub stepped_slot : SteppedSlot A o
     stepped_slot =
-        let r = q - k in
-        let s = slot_start A p (Some q) in
+        let r = kept_rows o in
+        let s = slot_start A o in
         record {
           row_coordinates = rows;
           aligned = start_aligned;
           same_starts = λ i. ap (λ n. eqb n 0) (shift_mod s i (2 ^ r) start_aligned);
           same_ends = λ i. ap (λ n. eqb n (2 ^ r - 1)) (shift_mod s i (2 ^ r) start_aligned);
           before = before_in r s;
-          whole_carry = λ t u. carry_window (slot_window (Some q)) t u r start_aligned (pow_mod (length (rest A p (Some q))) r rows);
-          whole_last = λ t u. last_window (slot_window (Some q)) t u r start_aligned;
+          whole_carry = λ t u. carry_window slot_window t u r start_aligned (pow_mod (length (rest A o)) r rows);
+          whole_last = λ t u. last_window slot_window t u r start_aligned;
         }
