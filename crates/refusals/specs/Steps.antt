@@ -1,6 +1,6 @@
 -- Which refusal each step meets, over its arguments alone: that of the first of its tests that is not passed.
--- k is the log width that a level tells, where 8 stands for every wider level.
-use Rattle.std.specs.Prelude.{◌≡◌, ℕ, ◌-◌, ◌*◌, ◌/◌, ◌^◌, min, max, Bool, true, false, cond, not, ◌&&◌, Some, None, Decides, Option, ◌==◌, count_ones, nat_lt}
+-- k is a level's log width, and where a step may meet a level of any width, the one that it tells.
+use Rattle.std.specs.Prelude.{◌≡◌, ℕ, ◌-◌, ◌*◌, ◌^◌, min, Bool, true, false, cond, not, ◌&&◌, Some, None, Decides, Option, ◌==◌, count_ones, nat_lt}
 use Rattle.level.specs.Bytes.{num_bytes}
 use Rattle.refusals.specs.Refusals.{Refusal, packing_refusal, ring_switch_refusal}
 use Rattle.refusals.specs.declared.faults.BitPackingError.{BitPackingError}
@@ -8,7 +8,7 @@ use Rattle.refusals.specs.declared.faults.BitPackingError.TheVariants.{LevelTooW
 use Rattle.refusals.specs.declared.faults.BitRingSwitchError.{BitRingSwitchError}
 use Rattle.refusals.specs.declared.faults.BitRingSwitchError.TheVariants.{RowVariables, PointTooNarrow, WidthMismatch, SuccessorBatching, BatchWidthMismatch, NoSuccessorView, WeightIndex, ClosingWidth}
 
--- what a level of log width k tells
+-- the log width that a level of log width k tells: 8 stands for every wider level
 abbrev pub told : ℕ → ℕ
 told k = min k 8
 
@@ -25,7 +25,12 @@ power_of_two n = count_ones n == 1
 abbrev pub PowersOfTwo : Type 0
 PowersOfTwo = (n : ℕ) → Decides (power_of_two n) ((e : ℕ) × (n ≡ 2 ^ e))
 
--- packing n bytes, each of eight cells
+-- the first refusal of two steps, one after the other
+abbrev pub first : Option Refusal → Option Refusal → Option Refusal
+first None s = s
+first (Some r) s = Some r
+
+-- packing n bytes, each of eight cells, at a level that tells k
 abbrev pub packing : ℕ → ℕ → Option Refusal
 packing k n =
     cond (nat_lt 7 k) (packing_meets LevelTooWide)
@@ -33,7 +38,7 @@ packing k n =
     (cond (not (power_of_two (8 * n))) (packing_meets (NotAHypercube (min (8 * n) (2 ^ 64 - 1))))
     (cond (nat_lt n (num_bytes k)) (packing_meets (TooShort (num_bytes k) n)) None)))
 
--- a point of n coordinates, of which an element absorbs k
+-- a point of n coordinates, of which an element of log width k absorbs k
 abbrev pub wide_enough : ℕ → ℕ → Option Refusal
 wide_enough k n = cond (nat_lt n k) (meets (PointTooNarrow k n)) None
 

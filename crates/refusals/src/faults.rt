@@ -33,8 +33,7 @@ pub enum BitRingSwitchError {
         expected: usize,
         actual: usize,
     },
-    // A challenge is missing, or was given where no successor tensors are sent. The flag is the value that the refusal carries, by a rule of
-    // the project.
+    // A challenge is missing, or was given where no successor tensors are sent. The value told is whether they are sent.
     SuccessorBatching {
         expected: bool,
     },

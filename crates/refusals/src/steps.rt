@@ -1,4 +1,4 @@
-ghost use Rattle.std.specs.Prelude.{◌≡◌, ◌^◌, ◌<◌};
+ghost use Rattle.std.specs.Prelude.{◌≡◌, ◌≤◌};
 ghost use Rattle.refusals.specs.Refusals.{packing_refusal, ring_switch_refusal, refused};
 ghost use Rattle.refusals.specs.Steps.{told, PowersOfTwo, packing, opening, width, batching, successor, weight, closing};
 
@@ -32,12 +32,14 @@ pub fn check_packing<L: Level>(len: usize) -> Result<(), BitPackingError>
     Ok(())
 }
 
-// Whether a reduction can be opened at a point of so many coordinates, with a view of so many row variables or without one.
+// Whether a reduction can be opened at a point of so many coordinates, with a view of so many row variables or without one. It packs at the
+// level, so the level has at most 128 coordinates.
 pub fn check_opening<L: Level>(
     num_variables: usize,
     view: Option<usize>,
 ) -> Result<(), BitRingSwitchError>
-    ensures { refused ring_switch_refusal result ≡ opening (told L.Level.log) num_variables view }
+    requires { L.Level.log ≤ 7 }
+    ensures { refused ring_switch_refusal result ≡ opening L.Level.log num_variables view }
 {
     if let Some(row_variables) = view {
         if row_variables > num_variables {
@@ -68,13 +70,15 @@ pub fn check_width(expected: usize, actual: usize) -> Result<(), BitRingSwitchEr
 }
 
 // Whether a batching stage fits: it has a challenge exactly where successor tensors are sent, and a coordinate for each that one
-// packed element absorbs. Two flags and no `Option`s, since only whether each is there is tested, and the fault tells the first.
+// packed element absorbs. Two flags and no `Option`s, since only whether each is there is tested, and the fault tells the first. At most 128
+// coordinates, as for an opening.
 pub fn check_batching<L: Level>(
     sent: bool,
     challenged: bool,
     actual: usize,
 ) -> Result<(), BitRingSwitchError>
-    ensures { refused ring_switch_refusal result ≡ batching (told L.Level.log) sent challenged actual }
+    requires { L.Level.log ≤ 7 }
+    ensures { refused ring_switch_refusal result ≡ batching L.Level.log sent challenged actual }
 {
     if sent != challenged {
         return Err(BitRingSwitchError::SuccessorBatching { expected: sent });
