@@ -1,5 +1,5 @@
 ghost use Rattle.std.specs.Prelude.{◌≡◌, ◌<◌, ◌≤◌, ◌++◌, map, length, IfOk, Some, None, string_bytes};
-ghost use Rattle.refusals.specs.Steps.{told, opening};
+ghost use Rattle.refusals.specs.Steps.{opening};
 ghost use Rattle.problem.specs.Task.{task_of};
 ghost use Rattle.report_lines.specs.Report.{variables_of, batched_text, opened_text, report_text, Reported};
 
@@ -23,7 +23,7 @@ fn batched_lines<'a, L: Level>(
 ) -> Result<(), Stop>
     requires narrow { L.Level.log ≤ 7 }
     requires short { length problem.now.point.items < 64 }
-    requires opened { opening (told L.Level.log) (length problem.now.point.items) problem.now.view ≡ None }
+    requires opened { opening L.Level.log (length problem.now.point.items) problem.now.view ≡ None }
     ensures { Reported result (string_bytes out.new) (string_bytes out.old ++ batched_text L.arithmetic (task_of L.means problem.now) (Some (map L.means batching.now))) }
 {
     let bits = problem.bits.as_slice();

@@ -4,7 +4,7 @@ ghost use Rattle.multilinear.specs.Cells.{cell};
 ghost use Rattle.multilinear.specs.Equality.{equality};
 ghost use Rattle.ring_switch.specs.Batching.{closing_value};
 ghost use Rattle.refusals.specs.Refusals.{ring_switch_refusal, refused};
-ghost use Rattle.refusals.specs.Steps.{told, opening, closing};
+ghost use Rattle.refusals.specs.Steps.{opening, closing};
 ghost use Rattle.plain.specs.Steps.{steps};
 ghost use Rattle.report_lines.specs.Opened.{open_refusal, values_at, values_of};
 ghost use Rattle.report_lines.specs.Batched.{batch_refusal, slot_batching};
@@ -52,7 +52,7 @@ pub fn batch<'a, L: Level>(
 ) -> Result<BatchedSlot<'a, L>, BitRingSwitchError>
     requires narrow { L.Level.log ≤ 7 }
     requires short { length point.now < 64 }
-    requires opened { opening (told L.Level.log) (length point.now) view ≡ None }
+    requires opened { opening L.Level.log (length point.now) view ≡ None }
     ensures refusal { refused ring_switch_refusal result ≡ batch_refusal L.Level.log view challenge (length batching.now) }
     ensures batched { IfOk result (λ b. batching_of L.means b ≡ slot_batching L.arithmetic (cell bits.now) (map L.means point.now) view (map L.means batching.now) (option_map L.means challenge)) }
 {

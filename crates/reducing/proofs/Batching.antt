@@ -10,7 +10,6 @@ use Rattle.tensor_algebra.specs.Tensor.{Tensor}
 use Rattle.ring_switch.specs.Opening.{View, kept, rest}
 use Rattle.ring_switch.specs.Batching.{Stepping, initial_sum}
 use Rattle.ring_switch.specs.ClaimLaws.{opened, opened_carry, opened_last}
-use Rattle.refusals.specs.Steps.{told}
 use Rattle.plain.specs.Openings.{named}
 use Rattle.reduction.specs.Successors.{carry_rows, last_rows}
 use Rattle.reduction.specs.Worked.{Worked}
@@ -25,8 +24,7 @@ batching_width k view α n h e =
     let t = is_some α in
     let a = passed (s && not t) _ _ e in
     let b = passed (t && not s) _ _ a.1 in
-    let same : told k ≡ k = omega arith in
-    eqb-true n (told k) (met (eqb n (told k)) _ b.1) ∙ same
+    eqb-true n k (met (eqb n k) _ b.1)
 
 -- the initial sum of the tensors that are formed
 sent : {k : ℕ} (A : Arithmetic k) (f : ℕ → Element k) (view : View) (α : Option (Element k)) (t c l u d m : Tensor k) → t ≡ u

@@ -15,7 +15,7 @@ use Rattle.folding.proofs.Slots.{size_is}
 use Rattle.multilinear.specs.Cells.{cell}
 use Rattle.problem.specs.Task.{Task}
 use Rattle.refusals.specs.Refusals.{Refusal}
-use Rattle.refusals.specs.Steps.{told, opening, width}
+use Rattle.refusals.specs.Steps.{opening, width}
 use Rattle.level.specs.Bytes.{num_bytes}
 use Rattle.report_lines.specs.Packing.{Packs}
 use Rattle.report_lines.specs.Opened.{Values, open_refusal, values_at}
@@ -44,10 +44,7 @@ wide_point k n None e = ltb-false n k (passed (ltb n k) _ _ e).0
 wide_point k n (Some q) e = ltb-false n k (passed (ltb n k) _ _ (passed (ltb n q) _ _ e).1).0
 
 pub absorbed_point : (k v n : ℕ) (view : Option ℕ) → k ≤ 7 → None ≡ open_refusal k v n view → k ≤ n
-absorbed_point k v n view h e =
-    let same : told k ≡ k = omega arith in
-    let wide = wide_point (told k) n view (both_passed (opening (told k) n view) (width (n - k) v) e).0 in
-    omega arith
+absorbed_point k v n view h e = wide_point k n view (both_passed (opening k n view) (width (n - k) v) e).0
 
 -- the slot of an opening has few packed elements
 pub few_elements : {X : Type 0} {k : ℕ} (means : X → Element k) {A : Arithmetic k} (laws : Laws A) (p : Point k) (view : View) (outers inners : List X)
@@ -66,7 +63,7 @@ stride_is k wide narrow =
 
 -- an opening that is not refused has a variable for each kept coordinate
 pub matched_width : (k v n : ℕ) (view : Option ℕ) → None ≡ open_refusal k v n view → v ≡ n - k
-matched_width k v n view e = eqb-true v (n - k) (met (eqb v (n - k)) _ (both_passed (opening (told k) n view) (width (n - k) v) e).1)
+matched_width k v n view e = eqb-true v (n - k) (met (eqb v (n - k)) _ (both_passed (opening k n view) (width (n - k) v) e).1)
 
 -- how many packed elements bytes are
 pub packed_count : (k n v : ℕ) → 3 ≤ k → Packs k n v → n / num_bytes k ≡ 2 ^ v

@@ -24,7 +24,7 @@ module _ {k : ℕ} (A : Arithmetic k) (t : Task k) (bits : List ℕ) (same_bits 
   module _ (point : Point k) (same_point : point ≡ t.point) where
     module _ {X : Type 0} (p : Point k) (n : ℕ) (len : n ≡ length p) (α : Option X) (some : is_some α ≡ is_some t.challenge) where
       same_refusal : batch_refusal k t.view α n ≡ batch_refusal k t.view t.challenge (length p)
-      same_refusal = ap₂ (λ (s : Bool) (m : ℕ). batching (told k) (is_some (kept k t.view)) s m) some len
+      same_refusal = ap₂ (λ (s : Bool) (m : ℕ). batching k (is_some (kept k t.view)) s m) some len
 
       pub batching_refused : (r : Refusal) → Some r ≡ batch_refusal k t.view α n → a ++ refusal_line r.number ≡ a ++ batched_text A t (Some p)
       unfolding batched_text

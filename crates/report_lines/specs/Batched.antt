@@ -18,7 +18,7 @@ stepped (Some r) (Some α) = Some (record { rows = r; challenge = α })
 
 -- batching at a point of n coordinates, with a challenge or without
 abbrev pub batch_refusal : {X : Type 0} → ℕ → View → Option X → ℕ → Option Refusal
-batch_refusal k view challenge n = step.batching (step.told k) (is_some (kept k view)) (is_some challenge) n
+batch_refusal k view challenge n = step.batching k (is_some (kept k view)) (is_some challenge) n
 
 pub record Batching (k : ℕ) : Type 0 where
   pub slot : Point k

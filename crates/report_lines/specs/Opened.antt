@@ -10,14 +10,9 @@ use Rattle.refusals.specs.Refusals.{Refusal}
 use Rattle.refusals.specs.Steps as step
 use Rattle.report_lines.specs.declared.opening.Opening.{Opening}
 
--- the first refusal of two steps, one after the other
-abbrev pub first : Option Refusal → Option Refusal → Option Refusal
-first None s = s
-first (Some r) s = Some r
-
 -- opening 2^v packed elements at a point of n coordinates
 abbrev pub open_refusal : ℕ → ℕ → ℕ → opening.View → Option Refusal
-open_refusal k v n view = first (step.opening (step.told k) n view) (step.width (n - k) v)
+open_refusal k v n view = step.first (step.opening k n view) (step.width (n - k) v)
 
 pub record Values (k : ℕ) : Type 0 where
   -- the multilinear value of the bits at the point

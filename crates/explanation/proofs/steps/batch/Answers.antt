@@ -2,7 +2,6 @@ use Rattle.std.proofs.Common.{◌≡◌, ℕ, ◌<◌, ◌≤◌, map, length, O
 use lib.ListN.{length-map}
 use Rattle.std.specs.Option.{option_map}
 use Rattle.ring_switch.specs.Opening.{kept, rest}
-use Rattle.refusals.specs.Steps.{told}
 use Rattle.plain.specs.Steps.{steps}
 use Rattle.plain.specs.Openings.{named}
 use Rattle.report_lines.specs.Batched.{stepped}
@@ -16,7 +15,7 @@ invariant_of-batching g c =
     let m = g.L.Level in
     let view = c.args.view in
     let α = option_map m.means c.args.challenge in
-    let few : named view ≤ 63 = omega (arith, rows_named (told m.log) (length c.args.point.now) view (sym c.requires.opened), c.requires.short) in
+    let few : named view ≤ 63 = omega (arith, rows_named m.log (length c.args.point.now) view (sym c.requires.opened), c.requires.short) in
     record { few = few_steps m.means _ (rows_few view α _ 63 (c.stepping_of.ensures ∙ ap (λ (r : Option ℕ). stepped r α) c.kept_row_variables-rows.ensures) few) }
 
 pub invariant_of-result : goal.invariant_of-result
@@ -28,7 +27,7 @@ invariant_of-result g c =
     let p = map m.means point in
     let slot = c.slot-start.result.coordinates.now in
     let short : length slot < 64 = search rules in
-    let rows : named view ≤ length p = omega (arith, rows_named (told m.log) (length point) view (sym c.requires.opened), length-map point m.means) in
+    let rows : named view ≤ length p = omega (arith, rows_named m.log (length point) view (sym c.requires.opened), length-map point m.means) in
     let e : steps m.means c.stepping_of.result ≡ stepped (kept m.log view) α = c.stepping_of.ensures ∙ ap (λ (r : Option ℕ). stepped r α) c.kept_row_variables-rows.ensures in
     let l : length slot ≡ length (rest m.arithmetic p view) = sym (length-map slot m.means) ∙ ap length c.slot-start.ensures.coordinates in
     record {

@@ -5,7 +5,7 @@ use Rattle.std.specs.declared.alloc.Global.{Global}
 use Rattle.multilinear.specs.Cells.{cell}
 use Rattle.multilinear.specs.Equality.{Point}
 use Rattle.ring_switch.specs.Opening.{kept}
-use Rattle.refusals.specs.Steps.{told, batching}
+use Rattle.refusals.specs.Steps.{batching}
 use Rattle.problem.proofs.Optional.{some_mapped}
 use Rattle.problem.specs.Task.{task_of}
 use Rattle.report_lines.specs.Batched.{batch_refusal}
@@ -27,7 +27,7 @@ returns-in_err-check_batching g c =
     let sent : c.is_some-sent.result ≡ is_some (kept m.log problem.view) = c.is_some-sent.ensures ∙ ap is_some c.kept_row_variables.ensures in
     rw (p.1, p.2) (batching_refused m.arithmetic t (vec_items problem.bits) refl (string_bytes c.args.out.now) t.point refl
     (map m.means b) (length b) (sym (length-map b m.means)) _ (some_mapped m.means problem.challenge) _
-    (c.in_err-check_batching.ensures ∙ ap₂ (λ (s u : Bool). batching (told m.log) s u (length b)) sent c.is_some.ensures))
+    (c.in_err-check_batching.ensures ∙ ap₂ (λ (s u : Bool). batching m.log s u (length b)) sent c.is_some.ensures))
 
 -- the batching is not refused
 passed : (g : given.Over) (c : In_ok-check_batching g) → None ≡ batch_refusal g.L.Level.log c.args.problem.now.view c.args.problem.now.challenge (length c.args.batching.now)
@@ -35,7 +35,7 @@ passed g c =
     let m = g.L.Level in
     let problem = c.args.problem.now in
     let sent : c.is_some-sent.result ≡ is_some (kept m.log problem.view) = c.is_some-sent.ensures ∙ ap is_some c.kept_row_variables.ensures in
-    c.in_ok-check_batching.ensures ∙ ap₂ (λ (s u : Bool). batching (told m.log) s u (length c.args.batching.now)) sent c.is_some.ensures
+    c.in_ok-check_batching.ensures ∙ ap₂ (λ (s u : Bool). batching m.log s u (length c.args.batching.now)) sent c.is_some.ensures
 
 pub returns : goal.returns
 returns g c =

@@ -3,7 +3,7 @@ use lib.ListN.{length-map}
 use Rattle.std.proofs.lemmas.Result.{err_from_is_err_and}
 use Rattle.multilinear.specs.Cells.{cell}
 use Rattle.problem.specs.Task.{task_of}
-use Rattle.refusals.specs.Steps.{told, opening, width}
+use Rattle.refusals.specs.Steps.{opening, width}
 use Rattle.report_lines.specs.Opened.{open_refusal}
 use Rattle.report_lines.specs.Report.{Reported}
 use Rattle.report_lines.proofs.Batches.{rows_named}
