@@ -7,9 +7,8 @@ ghost use Rattle.tensor_algebra.specs.Subsets.{basis};
 ghost use Rattle.basis.specs.Tables.{lone, held, Completed, Tabulated, looked_up, scaled};
 ghost use Rattle.level.specs.Bytes.{num_bytes};
 
-use crate::coefficients::basis_element;
-use coordinates::num_bytes;
 use coordinates::per_coordinate::PerCoordinate;
+use coordinates::{basis, num_bytes};
 use level::level::Level;
 
 // The subset without its lowest coordinate.
@@ -143,7 +142,7 @@ impl<'a, L: Level> CoordinateSums<'a, L> {
         requires coordinate { coordinate < 128 }
         ensures { L.means result ≡ looked_up (lent L.means self.now.tables.now) (L.arithmetic.times (L.means scale) (basis L.Level.log coordinate)) }
     {
-        self.sum(scale.mul(basis_element(coordinate)))
+        self.sum(scale.mul(basis(coordinate)))
     }
 }
 

@@ -1,5 +1,6 @@
 -- How many bytes the coordinates of an element take.
-use Rattle.std.proofs.Common.{◌≡◌, ℕ, zero, suc, ◌+◌, ◌/◌, ◌≤◌, max, refl, arith}
+use Rattle.std.proofs.Common.{◌≡◌, ℕ, zero, suc, ◌+◌, ◌/◌, ◌≤◌, refl, arith}
+use Rattle.level.specs.Bytes.{num_bytes}
 use Rattle.level.specs.Element.{width}
 
 -- what holds of every level of at most 128 coordinates
@@ -14,12 +15,6 @@ narrow_cases P a b c d e f g h (suc (suc (suc (suc (suc (suc zero)))))) l = g
 narrow_cases P a b c d e f g h (suc (suc (suc (suc (suc (suc (suc zero))))))) l = h
 narrow_cases P a b c d e f g h (suc (suc (suc (suc (suc (suc (suc (suc k)))))))) l = absurd (omega arith)
 
--- a level of whole bytes fills them
-pub fills_bytes : (k : ℕ) → 3 ≤ k → k ≤ 7 → max 1 (width k / 8) ≡ width k / 8
-fills_bytes k wide narrow =
-    narrow_cases (λ j. 3 ≤ j → max 1 (width j / 8) ≡ width j / 8) (λ l. absurd (omega (arith, l))) (λ l. absurd (omega (arith, l))) (λ l. absurd (omega (arith, l)))
-    (λ l. refl) (λ l. refl) (λ l. refl) (λ l. refl) (λ l. refl) k narrow wide
-
 -- the last byte may be filled in part
-pub rounded_up : (k : ℕ) → k ≤ 7 → max 1 (width k / 8) ≡ (width k + 7) / 8
-rounded_up = narrow_cases (λ j. max 1 (width j / 8) ≡ (width j + 7) / 8) refl refl refl refl refl refl refl refl
+pub rounded_up : (k : ℕ) → k ≤ 7 → num_bytes k ≡ (width k + 7) / 8
+rounded_up = narrow_cases (λ j. num_bytes j ≡ (width j + 7) / 8) refl refl refl refl refl refl refl refl

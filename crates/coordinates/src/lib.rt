@@ -1,13 +1,15 @@
-// An element's coordinates as one number, coordinate u at bit u, and elements made from such numbers, all for levels of at most 128
-// coordinates; and slices with an element for each coordinate, at any level.
+// An element's coordinates: as one number, coordinate u at bit u, for levels of at most 128 coordinates; as sixteen bytes; elements made from
+// them; and slices with an element for each coordinate, the rows of a tensor among them, read by columns and against weights.
 #![tactic(auto)]
 
-ghost use Rattle.std.specs.Prelude.{◌≡◌, ◌+◌, ◌*◌, ◌/◌, ◌%◌, ◌^◌, ◌<◌, ◌≤◌, max};
+ghost use Rattle.std.specs.Prelude.{◌≡◌, ◌+◌, ◌*◌, ◌/◌, ◌%◌, ◌^◌, ◌<◌, ◌≤◌};
 ghost use Rattle.level.specs.Element.{width, cut};
+ghost use Rattle.level.specs.Bytes.{num_bytes};
 ghost use Rattle.tensor_algebra.specs.Subsets.{basis};
 
 use level::level::Level;
 
+pub mod coefficients;
 pub mod per_coordinate;
 
 // How many coordinates an element of the level has.
@@ -18,20 +20,12 @@ pub fn width<L: Level>() -> usize
     1 << L::log_width()
 }
 
-// How many whole bytes the coordinates fill.
-pub fn whole_bytes<L: Level>() -> usize
-    requires { L.Level.log ≤ 7 }
-    ensures { result ≡ width L.Level.log / 8 }
-{
-    width::<L>() / 8
-}
-
 // How many bytes hold the coordinates, one where they do not fill it.
 pub fn num_bytes<L: Level>() -> usize
     requires { L.Level.log ≤ 7 }
-    ensures { result ≡ max 1 (width L.Level.log / 8) }
+    ensures { result ≡ num_bytes L.Level.log }
 {
-    whole_bytes::<L>().max(1)
+    (width::<L>() / 8).max(1)
 }
 
 // An element's coordinates.
@@ -42,26 +36,24 @@ pub fn coordinates<L: Level>(x: L) -> u128
     u128::from_le_bytes(x.to_bytes())
 }
 
-// The element with those coordinates, bits past the width dropped.
+// The element with those coordinates, bits past the width dropped, and none set from the 128th on.
 #[tactic(auto, using(crate::proofs::Numbers::element_of, level::proofs::Words::to_le_bytes))]
 pub fn from_coordinates<L: Level>(coordinates: u128) -> L
-    requires { L.Level.log ≤ 7 }
     ensures { L.means result ≡ cut L.Level.log coordinates }
 {
     L::from_bytes(coordinates.to_le_bytes())
 }
 
-// The element of which coordinate u alone is set.
+// The element of which coordinate u alone is set, and zero past the width.
 #[tactic(auto, using(crate::proofs::Numbers::basis_of, crate::proofs::Numbers::one_bit))]
 pub fn basis<L: Level>(u: usize) -> L
-    requires { (L.Level.log ≤ 7) × (u < 128) }
+    requires { u < 128 }
     ensures { L.means result ≡ basis L.Level.log u }
 {
     from_coordinates(1 << u)
 }
 
-// Coordinate u, 0 or 1: a number, since `with_coordinate` puts such digits together. That u is below 128 is asked where a place is read, as in
-// `basis::coefficients`.
+// Coordinate u, 0 or 1: a number, since `with_coordinate` puts such digits together.
 pub fn coordinate(coordinates: u128, u: usize) -> u128
     requires { u < 128 }
     ensures { result ≡ coordinates / 2 ^ u % 2 }

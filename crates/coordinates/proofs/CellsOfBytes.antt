@@ -7,11 +7,9 @@ use Rattle.std.proofs.lemmas.Bool.{cases_eq, cases_lt}
 use Rattle.level.specs.Element.{Element, width, coordinate}
 use Rattle.level.specs.Bytes.{sixteen, from_sixteen, Octets}
 use Rattle.level.proofs.Ands.{bit_cases}
-use Rattle.level.proofs.Digits.{low_bit, bytes_are_coordinates}
-use Rattle.level.proofs.Elements.{cut_is}
+use Rattle.level.proofs.Digits.{bytes_are_coordinates}
 use Rattle.multilinear.specs.Cells.{cell, gather}
-use Rattle.multilinear.proofs.Coordinates.{by_coordinates, gather_coordinates}
-use Rattle.tensor_algebra.specs.Subsets.{basis}
+use Rattle.multilinear.proofs.Coordinates.{gather_coordinates}
 use Rattle.tensor_algebra.proofs.Basis.{power_digit_same, power_digit_other}
 
 -- coordinate u by its byte and its bit
@@ -68,15 +66,3 @@ module _ (bs : List ℕ) (i b : ℕ) (h : i / 8 < length bs) (e : b ≡ bit_or (
           let other : u % 8 ≡ i % 8 → ⊥ = λ r. ne (omega arith) in
           ap (λ j. get_or (set bs (i / 8) b) j 0 / 2 ^ (u % 8) % 2) q ∙ ap (λ n. n / 2 ^ (u % 8) % 2) (get_or-set_same bs (i / 8) b 0 h ∙ e)
           ∙ or_other (get_or bs (i / 8) 0) (i % 8) (u % 8) other ∙ ap (λ j. get_or bs j 0 / 2 ^ (u % 8) % 2) (sym q)
-
--- the element of which one cell alone is set
-pub made_basis : (k : ℕ) (bs : List ℕ) (i : ℕ) → Octets bs → cell bs i ≡ 1 → ((u : ℕ) → (u ≡ i → ⊥) → cell bs u ≡ 0) → from_sixteen k bs ≡ basis k i
-unfolding basis
-made_basis k bs i o one none =
-    by_coordinates _ _ (λ u h.
-    coordinate_made k bs o u h ∙ digit u ∙ sym (ap (λ n. n / 2 ^ u % 2) (cut_is k (2 ^ i)) ∙ low_bit (2 ^ i) (width k) u h))
-  where
-    digit : (u : ℕ) → cell bs u ≡ 2 ^ i / 2 ^ u % 2
-    digit u =
-        ⊎_elim (λ q. ap (cell bs) q ∙ one ∙ sym (power_digit_same i) ∙ ap (λ v. 2 ^ i / 2 ^ v % 2) (sym q))
-        (λ ne. none u ne ∙ sym (power_digit_other i u ne)) (cases_eq u i)

@@ -1,6 +1,6 @@
 use Rattle.std.proofs.Common.{◌/◌, ◌<◌, length, rules}
-use Rattle.basis.proofs.CellsOfBytes.{cell_set, cell_kept}
-use Rattle.basis.proofs.coefficients.Coefficients.set.Goals as goal
+use Rattle.coordinates.proofs.CellsOfBytes.{cell_set, cell_kept}
+use Rattle.coordinates.proofs.coefficients.Coefficients.set.Goals as goal
 
 pub returns : goal.returns
 returns c =

@@ -1,8 +1,8 @@
-ghost use Rattle.std.specs.Prelude.{◌≡◌, ℕ, ◌/◌, ◌%◌, ◌^◌, ◌<◌, ◌≤◌, List, replicate, ◌==◌, ◌≢◌, bit_or, slice_index, MatchOption};
+ghost use Rattle.std.specs.Prelude.{◌≡◌, ℕ, ◌/◌, ◌%◌, ◌^◌, ◌<◌, ◌≤◌, List, replicate, ◌==◌, ◌≢◌, bit_or, slice_index};
 ghost use Rattle.level.specs.Element.{Element, coordinate};
 ghost use Rattle.level.specs.Bytes.{sixteen, from_sixteen, Octets};
 ghost use Rattle.multilinear.specs.Cells.{cell, gather};
-ghost use Rattle.tensor_algebra.specs.Subsets.{basis};
+ghost use Rattle.coordinates.specs.SetPlaces.{NextSet};
 
 use level::level::Level;
 
@@ -14,7 +14,7 @@ pub struct Coefficients {
     ghost octets: { Octets bytes },
 }
 
-// Bit `at` of a byte. `coordinates::coordinate` reads a bit of a number of 128, and `plain` has a cell as a number.
+// Bit `at` of a byte, as a truth: `coordinate` reads a bit of a number of 128, as a number.
 fn bit(byte: u8, at: usize) -> bool
     requires { at < 8 }
     ensures { result ≡ (byte / 2 ^ at % 2 == 1) }
@@ -22,7 +22,7 @@ fn bit(byte: u8, at: usize) -> bool
     (byte >> at) % 2 == 1
 }
 
-// The byte with bit `at` set, whatever bits it has: `coordinates::with_coordinate` asks that none from there on is set.
+// The byte with bit `at` set, whatever bits it has: `with_coordinate` asks that none from there on is set.
 fn with_bit(byte: u8, at: usize) -> u8
     requires { at < 8 }
     ensures { result ≡ bit_or byte (2 ^ at) }
@@ -57,16 +57,6 @@ impl Coefficients {
         bit(self.bytes[index / 8], index % 8)
     }
 
-    // The least set coordinate from a place on, if one is left: so the set coordinates come one after the other, upward.
-    pub fn next_set(&self, from: usize) -> Option<usize>
-        requires { from ≤ 128 }
-        ensures { MatchOption result
-            ((u : ℕ) → from ≤ u → u < 128 → cell self.now.bytes u ≡ 0)
-            (λ next. (from ≤ next) × (next < 128) × (cell self.now.bytes next ≡ 1) × ((u : ℕ) → from ≤ u → u < next → cell self.now.bytes u ≡ 0)) }
-    {
-        (from..128).find(|index| self.get(*index))
-    }
-
     // Sets a coordinate.
     pub fn set(&mut self, index: usize)
         requires { index < 128 }
@@ -92,23 +82,17 @@ impl Coefficients {
     }
 }
 
-// One coordinate set.
-fn single(coordinate: usize) -> Coefficients
-    requires { coordinate < 128 }
-    ensures { (k : ℕ) → from_sixteen k result.bytes ≡ basis k coordinate }
+// The least set place of a byte at or past a place, the least bit at place 0, and 8 where none is left: so the set places of a byte come one
+// after the other, upward.
+pub fn next_set(byte: u8, from: usize) -> usize
+    requires { from ≤ 8 }
+    ensures { NextSet byte from result }
 {
-    let mut coordinates = Coefficients::zero();
-    coordinates.set(coordinate);
-    coordinates
-}
-
-// The element of which one coordinate alone is set, and zero past the width: at a level of any width, where `coordinates::basis`
-// asks for 128 coordinates at most.
-pub fn basis_element<L: Level>(coordinate: usize) -> L
-    requires { coordinate < 128 }
-    ensures { L.means result ≡ basis L.Level.log coordinate }
-{
-    single(coordinate).element()
+    let mut place = from;
+    while place < 8 && !bit(byte, place) {
+        place += 1;
+    }
+    place
 }
 
 // Coordinates are the cells of their bytes: those of zero, of an element, and of the element that bytes make.

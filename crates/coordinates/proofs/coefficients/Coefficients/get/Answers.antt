@@ -1,5 +1,5 @@
 use Rattle.multilinear.specs.Cells.{cell}
-use Rattle.basis.proofs.coefficients.Coefficients.get.Goals as goal
+use Rattle.coordinates.proofs.coefficients.Coefficients.get.Goals as goal
 
 pub returns : goal.returns
 unfolding cell
