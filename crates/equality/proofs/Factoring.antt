@@ -1,15 +1,19 @@
 -- Tables held as two factors.
-use Rattle.std.proofs.Common.{◌≡◌, ℕ, zero, suc, ◌+◌, ◌-◌, ◌*◌, ◌/◌, ◌%◌, ◌^◌, ◌<◌, ◌≤◌, List, map, length, take, drop, sym, ap, ◌∙◌, subst, ap₂, subst₂, arith}
+use Rattle.std.proofs.Common.{◌≡◌, ℕ, ◌+◌, ◌-◌, ◌*◌, ◌/◌, ◌%◌, ◌^◌, ◌<◌, List, map, length, take, drop, sym, ap, ◌∙◌, subst, ap₂, subst₂, ⊎_elim, arith, w64, length-append, take-append-drop, pow_pos, pow-add}
 use lib.Arith.{mul_pred, digits_div, digits_mod}
 use lib.ListN.{length-map}
-use Rattle.std.proofs.lemmas.Nat.{div-add-mod', div_below, mod_below}
+use lib.Count.{count_trailing_zeros}
+use Rattle.std.specs.Int.{bit_at}
+use Rattle.std.proofs.lemmas.Bool.{cases_eq}
+use Rattle.std.proofs.lemmas.Nat.{div_below, mod_below}
+use Rattle.std.proofs.lemmas.Nat.Bits.{bit_at-trailing_zeros, bit_at-pow_other}
 use Rattle.std.proofs.lemmas.List.{take-map, drop-map}
 use Rattle.level.specs.Element.{Element}
 use Rattle.level.specs.Laws.{Arithmetic, Laws}
-use Rattle.multilinear.specs.Equality.{Point, entry, equality, outer, inner, inner_count}
+use Rattle.multilinear.specs.Equality.{Point, entry, outer, inner, inner_count}
 use Rattle.multilinear.specs.Lent.{lent}
-use Rattle.multilinear.proofs.Entries.{factored}
-use Rattle.equality.specs.Tables.{Tabulated, Factors}
+use Rattle.multilinear.proofs.Entries.{factored as factors}
+use Rattle.equality.specs.Tables.{Tabulated, Factors, factored, entries_of}
 
 module _ {X : Type 0} {k : ℕ} (means : X → Element k) (A : Arithmetic k) where
   -- the two parts of a point, by what they mean
@@ -27,40 +31,41 @@ module _ {X : Type 0} {k : ℕ} (means : X → Element k) (A : Arithmetic k) whe
         inner_table = subst (λ r. Tabulated means A start r inners) q i;
       }
 
--- the block and the place of an index of m blocks of n entries
-positive : (m n index : ℕ) → index < m * n → 0 < n
-positive m zero index h = omega arith
-positive m (suc n) index h = omega arith
+module _ {X : Type 0} {k : ℕ} (means : X → Element k) (A : Arithmetic k) (outers inners : List X) where
+  -- the entry at a place of a block
+  pub entry_in_block : (block place : ℕ) → place < length inners
+      → entries_of means A outers inners (block * length inners + place) ≡ A.times (lent means outers block) (lent means inners place)
+  unfolding factored
+  entry_in_block block place h = ap₂ (λ b j. A.times (lent means outers b) (lent means inners j)) (digits_div block h) (digits_mod block h)
 
-pub within : (m n index block place : ℕ) → index < m * n → block ≡ index / n → place ≡ index % n → (block < m) × (place < n)
-within m n index block place h b c =
-    let pos = positive m n index h in (omega (arith, div_below index n m pos h), omega (arith, mod_below index n pos))
+  -- the last entry before a block begins
+  pub entry_before : (index : ℕ) → 0 < length inners → 0 < index
+      → entries_of means A outers inners (index * length inners - 1) ≡ A.times (lent means outers (index - 1)) (lent means inners (length inners - 1))
+  entry_before index pos later =
+      ap (entries_of means A outers inners) (mul_pred later pos) ∙ entry_in_block (index - 1) (length inners - 1) (omega arith)
 
-module _ {X : Type 0} {k : ℕ} (means : X → Element k) {A : Arithmetic k} (laws : Laws A) (outers inners : List X) where
-  -- the product of the entries of a block and of a place in it
-  pub block_entry : (s : Element k) (p : Point k) → Factors means A s p outers inners → (block place : ℕ) → block < length outers → place < length inners
-      → A.times (lent means outers block) (lent means inners place) ≡ entry A s p (block * length inners + place)
-  block_entry s p f block place h l =
-      let n = 2 ^ length (inner p) in
-      let size = f.inner_table.size in
-      let l' : place < n = omega arith in
-      let index = block * length inners + place in
-      let row : index / n ≡ block = ap (λ m. (block * m + place) / n) size ∙ digits_div block l' in
-      let column : index % n ≡ place = ap (λ m. (block * m + place) % n) size ∙ digits_mod block l' in
-      ap₂ A.times (f.outer_table.entries block (omega (arith, f.outer_table.size)) ∙ ap (equality A (outer p)) (sym row))
-      (f.inner_table.entries place l' ∙ ap (entry A s (inner p)) (sym column))
-      ∙ sym ((factored laws).factored s p index)
+-- Where the slices are the factors of a point, the entries are those of its equality table.
+pub entries_are : {X : Type 0} {k : ℕ} (means : X → Element k) {A : Arithmetic k} → Laws A → (s : Element k) (p : Point k) (outers inners : List X)
+    → Factors means A s p outers inners → (i : ℕ) → i < 2 ^ length p → entries_of means A outers inners i ≡ entry A s p i
+unfolding factored
+entries_are means {A = A} laws s p outers inners f i h =
+    let m = length (outer p) in
+    let n = length (inner p) in
+    let size = f.inner_table.size in
+    let whole : length p ≡ m + n = sym (ap length (take-append-drop (length p - inner_count (length p)) p)) ∙ length-append (outer p) (inner p) in
+    let block : i / 2 ^ n < 2 ^ m = div_below i (2 ^ n) (2 ^ m) (pow_pos n) (omega (arith, ap (λ l. 2 ^ l) whole, pow-add 2 m n)) in
+    ap₂ A.times
+    (ap (λ l. lent means outers (i / l)) size ∙ f.outer_table.entries (i / 2 ^ n) block)
+    (ap (λ l. lent means inners (i % l)) size ∙ f.inner_table.entries (i % 2 ^ n) (mod_below i (2 ^ n) (pow_pos n)))
+    ∙ sym ((factors laws).factored s p i)
 
-  module _ (x : Element k) (index : ℕ) where
-    -- an entry by its block and its place
-    pub indexed_entry : (block place : ℕ) → index < length outers * length inners → block ≡ index / length inners → place ≡ index % length inners
-        → x ≡ A.times (lent means outers block) (lent means inners place) → (s : Element k) (p : Point k) → Factors means A s p outers inners → x ≡ entry A s p index
-    indexed_entry block place h b c e s p f =
-        let w = within (length outers) (length inners) index block place h b c in
-        e ∙ block_entry s p f block place w.0 w.1 ∙ ap (entry A s p) (ap₂ (λ i j. i * length inners + j) b c ∙ div-add-mod' index (length inners))
-
-    -- the last entry before a block begins
-    pub entry_before : 0 < length inners → index ≤ length outers → x ≡ A.times (lent means outers (index - 1)) (lent means inners (length inners - 1))
-        → (s : Element k) (p : Point k) → Factors means A s p outers inners → 0 < index → x ≡ entry A s p (index * length inners - 1)
-    entry_before pos h e s p f later =
-        e ∙ block_entry s p f (index - 1) (length inners - 1) (omega arith) (omega arith) ∙ ap (entry A s p) (sym (mul_pred later pos))
+-- A power of two that fits a machine word is two to the place of its lowest binary digit that is 1.
+pub log_of_power : (n e : ℕ) → n ≡ 2 ^ e → n < 2 ^ 64 → (count_trailing_zeros 64 n < 64) × (n ≡ 2 ^ count_trailing_zeros 64 n)
+log_of_power n e power fits =
+    let lowest = bit_at-trailing_zeros w64 n (omega (arith, power, pow_pos e)) fits in
+    let t = count_trailing_zeros 64 n in (
+      lowest.0,
+      power ∙ ap (λ i. 2 ^ i) (⊎_elim (λ q. sym q)
+          (λ ne. absurd (omega (arith, lowest.1, ap (λ m. bit_at m t) power, bit_at-pow_other e t ne)))
+          (cases_eq t e)),
+    )

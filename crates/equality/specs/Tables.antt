@@ -1,5 +1,5 @@
 -- What lent slices hold once equality tables are written into them.
-use Rattle.std.specs.Prelude.{◌≡◌, ℕ, ◌+◌, ◌^◌, ◌<◌, ◌≤◌, List, length}
+use Rattle.std.specs.Prelude.{◌≡◌, ℕ, ◌+◌, ◌/◌, ◌%◌, ◌^◌, ◌<◌, ◌≤◌, List, length}
 use Rattle.level.specs.Element.{Element, plus}
 use Rattle.level.specs.Laws.{Arithmetic}
 use Rattle.multilinear.specs.Equality.{Point, entry, outer, inner}
@@ -21,3 +21,11 @@ pub record Tabulated {X : Type 0} {k : ℕ} (means : X → Element k) (A : Arith
 pub record Factors {X : Type 0} {k : ℕ} (means : X → Element k) (A : Arithmetic k) (start : Element k) (p : Point k) (outers inners : List X) : Type 0 where
   pub outer_table : Tabulated means A A.unit (outer p) outers
   pub inner_table : Tabulated means A start (inner p) inners
+
+-- entry i of a table in blocks of n entries: entry i div n of an outer factor times entry i mod n of an inner one
+unfoldable pub factored : {k : ℕ} → Arithmetic k → (ℕ → Element k) → (ℕ → Element k) → ℕ → ℕ → Element k
+factored A outers inners n i = A.times (outers (i / n)) (inners (i % n))
+
+-- the entries of a table that two lent slices hold in factors, a block as long as the inner one
+abbrev pub entries_of : {X : Type 0} {k : ℕ} → (X → Element k) → Arithmetic k → List X → List X → ℕ → Element k
+entries_of means A outers inners = factored A (lent means outers) (lent means inners) (length inners)

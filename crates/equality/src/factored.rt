@@ -1,11 +1,12 @@
-ghost use Rattle.std.specs.Prelude.{◌≡◌, ◌-◌, ◌*◌, ◌/◌, ◌%◌, ◌^◌, ◌<◌, ◌≤◌, map, length, take, drop};
-ghost use Rattle.level.specs.Element.{Element, zeros};
-ghost use Rattle.multilinear.specs.Equality.{Point, entry, inner_count};
+ghost use Rattle.std.specs.Prelude.{◌≡◌, ℕ, ◌-◌, ◌*◌, ◌/◌, ◌%◌, ◌^◌, ◌<◌, ◌≤◌, map, length, take, drop};
+ghost use Rattle.level.specs.Element.{zeros};
+ghost use Rattle.multilinear.specs.Equality.{inner_count};
 ghost use Rattle.multilinear.specs.Lent.{lent};
-ghost use Rattle.equality.specs.Tables.{Factors};
+ghost use Rattle.equality.specs.Tables.{Factors, entries_of};
 
 use crate::table::equality_table;
 use level::level::Level;
+use std::alloc::AllocError;
 
 // How many of a point's coordinates the inner factor takes at most.
 const LOG_BLOCK: usize = 14;
@@ -51,36 +52,53 @@ struct Position {
     place: usize,
 }
 
-// Where an entry stands in blocks of `len` entries. A length that is a power of two, as that of every equality table is, takes no
-// division.
-fn split_index(index: usize, len: usize) -> Position
-    requires { 0 < len }
-    ensures block { result.block ≡ index / len }
-    ensures place { result.place ≡ index % len }
+// Where an entry stands in blocks of 2^log_block entries.
+fn split_index(index: usize, log_block: u32) -> Position
+    requires { log_block < 64 }
+    ensures block { result.block ≡ index / 2 ^ log_block }
+    ensures place { result.place ≡ index % 2 ^ log_block }
 {
-    let log = len.trailing_zeros();
-    if 1 << log == len {
-        Position {
-            block: index >> log,
-            place: index & (len - 1),
-        }
-    } else {
-        Position {
-            block: index / len,
-            place: index % len,
-        }
+    Position {
+        block: index >> log_block,
+        place: index & ((1 << log_block) - 1),
     }
 }
 
-// The equality table of a point, held as an outer factor, with an entry for each block, times an inner factor, with an entry for
-// each place of a block. That a block is not empty stands at the methods that need it: the others take factors of any length.
-#[derive(Clone, Copy, Debug)]
+// A table held as an outer factor, with an entry for each block, times an inner factor, with an entry for each place of a block. The
+// two factors of a point hold its equality table so.
 pub struct FactoredEquality<'a, L> {
     pub outer: &'a [L],
     pub inner: &'a [L],
+    log_block: u32,
+    ghost block: { length inner.now ≡ 2 ^ log_block },
+    ghost few: { log_block < 64 },
 }
 
+// By hand, since a generic struct with a ghost field derives no `Clone`.
+impl<'a, L> Clone for FactoredEquality<'a, L> {
+    ghost is_clone = { λ x y. y ≡ x };
+
+    fn clone(&self) -> Result<FactoredEquality<'a, L>, AllocError> {
+        Ok(*self)
+    }
+}
+
+impl<'a, L> Copy for FactoredEquality<'a, L> {}
+
 impl<'a, L: Level> FactoredEquality<'a, L> {
+    // The table that two factors hold, blocks of a power of two of entries.
+    pub fn new(outer: &'a [L], inner: &'a [L]) -> FactoredEquality<'a, L>
+        requires { (e : ℕ) × (length inner.now ≡ 2 ^ e) }
+        ensures outer { result.outer.now ≡ outer.now }
+        ensures inner { result.inner.now ≡ inner.now }
+    {
+        FactoredEquality {
+            outer,
+            inner,
+            log_block: inner.len().trailing_zeros(),
+        }
+    }
+
     // How many entries a block has.
     pub fn block_len(&self) -> usize
         ensures { result ≡ length self.now.inner.now }
@@ -106,7 +124,7 @@ impl<'a, L: Level> FactoredEquality<'a, L> {
 
     // The last entry of a block.
     fn last_entry(&self, block: usize) -> L
-        requires { (block < length self.now.outer.now) × (0 < length self.now.inner.now) }
+        requires { block < length self.now.outer.now }
         ensures { L.means result ≡ L.arithmetic.times (lent L.means self.now.outer.now block) (lent L.means self.now.inner.now (length self.now.inner.now - 1)) }
     {
         let place = self.block_len() - 1;
@@ -116,16 +134,16 @@ impl<'a, L: Level> FactoredEquality<'a, L> {
     // Entry `index` of the table.
     pub fn entry(&self, index: usize) -> L
         requires { index < length self.now.outer.now * length self.now.inner.now }
-        ensures { (s : Element L.Level.log) (p : Point L.Level.log) → Factors L.means L.arithmetic s p self.now.outer.now self.now.inner.now → L.means result ≡ entry L.arithmetic s p index }
+        ensures { L.means result ≡ entries_of L.means L.arithmetic self.now.outer.now self.now.inner.now index }
     {
-        self.product(split_index(index, self.block_len()))
+        self.product(split_index(index, self.log_block))
     }
 
     // The entry before block `index` begins, and zero at the first block.
     pub fn before_block(&self, index: usize) -> L
-        requires { (index ≤ length self.now.outer.now) × (0 < length self.now.inner.now) }
+        requires { index ≤ length self.now.outer.now }
         ensures first { index ≡ 0 → L.means result ≡ zeros L.Level.log }
-        ensures later { (s : Element L.Level.log) (p : Point L.Level.log) → Factors L.means L.arithmetic s p self.now.outer.now self.now.inner.now → 0 < index → L.means result ≡ entry L.arithmetic s p (index * length self.now.inner.now - 1) }
+        ensures later { 0 < index → L.means result ≡ entries_of L.means L.arithmetic self.now.outer.now self.now.inner.now (index * length self.now.inner.now - 1) }
     {
         if index == 0 {
             return L::zero();

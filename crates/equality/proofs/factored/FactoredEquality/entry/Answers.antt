@@ -1,10 +1,15 @@
-use Rattle.std.proofs.Common.{◌/◌, ◌%◌, ap, ◌∙◌}
-use Rattle.equality.proofs.Factoring.{indexed_entry}
+use Rattle.std.proofs.Common.{◌≡◌, ◌^◌, ◌/◌, ◌%◌, length, ap, ap₂, sym, ◌∙◌, arith}
+use Rattle.multilinear.specs.Lent.{lent}
+use Rattle.equality.specs.Tables.{factored}
 use Rattle.equality.proofs.factored.FactoredEquality.entry.Goals as goal
 
 pub returns : goal.returns
+unfolding factored
 returns g c =
-    let i = c.args.index in
-    indexed_entry g.L.Level.means g.met.L.Level.ring _ _ _ i _ _ c.requires
-    (c.split_index.ensures.block ∙ ap (λ n. i / n) c.block_len.ensures)
-    (c.split_index.ensures.place ∙ ap (λ n. i % n) c.block_len.ensures) c.product.ensures
+    let m = g.L.Level in
+    let e = c.args.self.now in
+    let size : length e.inner.now ≡ 2 ^ e.log_block = omega arith in
+    c.product.ensures
+    ∙ ap₂ (λ b j. m.arithmetic.times (lent m.means e.outer.now b) (lent m.means e.inner.now j))
+    (c.split_index.ensures.block ∙ ap (λ n. c.args.index / n) (sym size))
+    (c.split_index.ensures.place ∙ ap (λ n. c.args.index % n) (sym size))
