@@ -1,3 +1,4 @@
+pub mod Shown
 pub mod Hexes
 pub mod Parsing
 pub mod Mapped

@@ -5,7 +5,7 @@ use native.Mathlib.Nat.{sub-zero}
 use Rattle.std.proofs.lemmas.List.{take_more, append_assoc, take_all, length-take-le, length-set, get_or-take, take-append-drop, drop-set-lt, take_more_set, drop-replicate, drop-drop, length-replicate, take-replicate, length-append, take_at, drop_at}
 use Rattle.level.specs.Element.{Element, cut}
 use Rattle.level.specs.Bytes.{Octets, le_number, from_sixteen}
-use Rattle.element_text.specs.Hex.{hex, byte_count, NoDigit, IsDigit, Parsed, Broken, Pair, Writes}
+use Rattle.element_text.specs.Hex.{hex, shown_bytes, NoDigit, IsDigit, Parsed, Broken, Pair, Writes}
 use Rattle.element_text.proofs.Hexes.{hex_append}
 
 -- each character of the text of bytes is a digit
@@ -93,14 +93,14 @@ le_padded [] n = le_zeroes n
 le_padded (x ∷ xs) n = ap (λ m. x + 256 * m) (le_padded xs n)
 
 -- an element from sixteen bytes, by the text that they were read from
-pub writes : {k : ℕ} (text bs : List ℕ) (x : Element k) → byte_count k ≤ 16 → length text ≡ 2 * byte_count k → Parsed (byte_count k) text bs → x ≡ from_sixteen k bs → Writes text x
+pub writes : {k : ℕ} (text bs : List ℕ) (x : Element k) → shown_bytes k ≤ 16 → length text ≡ 2 * shown_bytes k → Parsed (shown_bytes k) text bs → x ≡ from_sixteen k bs → Writes text x
 unfolding from_sixteen
 writes {k} text bs x few len p e = record {
-  bytes = take (byte_count k) bs;
-  count = length-take-le (byte_count k) bs (omega (arith, p.length_is));
-  octets = octets_take (byte_count k) bs p.octets;
-  text_is = sym (take_all (2 * byte_count k) text (omega arith)) ∙ p.text_is;
-  element_is = e ∙ ap (λ n. cut k n) (ap le_number (sym (take-append-drop (byte_count k) bs) ∙ ap (λ t. take (byte_count k) bs ++ t) p.padded) ∙ le_padded (take (byte_count k) bs) (16 - byte_count k));
+  bytes = take (shown_bytes k) bs;
+  count = length-take-le (shown_bytes k) bs (omega (arith, p.length_is));
+  octets = octets_take (shown_bytes k) bs p.octets;
+  text_is = sym (take_all (2 * shown_bytes k) text (omega arith)) ∙ p.text_is;
+  element_is = e ∙ ap (λ n. cut k n) (ap le_number (sym (take-append-drop (shown_bytes k) bs) ∙ ap (λ t. take (shown_bytes k) bs ++ t) p.padded) ∙ le_padded (take (shown_bytes k) bs) (16 - shown_bytes k));
 }
 
 octets_zeroes : (n : ℕ) → Octets (replicate n 0)

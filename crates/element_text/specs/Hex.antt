@@ -1,7 +1,7 @@
 -- Elements as text: two lower-case hexadecimal digits a byte, byte 0 first, without gaps.
-use Rattle.std.specs.Prelude.{◌≡◌, ℕ, ◌+◌, ◌-◌, ◌*◌, ◌/◌, ◌%◌, ◌^◌, ◌<◌, min, cond, List, [], ◌∷◌, length, take, drop, replicate, ◌≢◌, nat_lt, slice_index, slice_index_or}
+use Rattle.std.specs.Prelude.{◌≡◌, ℕ, ◌+◌, ◌-◌, ◌*◌, ◌/◌, ◌%◌, ◌<◌, min, cond, List, [], ◌∷◌, length, take, drop, replicate, ◌≢◌, nat_lt, slice_index, slice_index_or}
 use Rattle.level.specs.Element.{Element}
-use Rattle.level.specs.Bytes.{sixteen, from_sixteen, Octets}
+use Rattle.level.specs.Bytes.{num_bytes, sixteen, from_sixteen, Octets}
 
 -- the code of the digit of a number below 16
 abbrev pub digit_code : ℕ → ℕ
@@ -12,18 +12,18 @@ unfoldable pub hex : List ℕ → List ℕ
 hex [] = []
 hex (b ∷ bs) = digit_code (b / 16) ∷ digit_code (b % 16) ∷ hex bs
 
--- how many bytes an element of log width k takes: 2^k / 8, at least 1, and at most the 16 that a level shows
-abbrev pub byte_count : ℕ → ℕ
-byte_count k = 2 ^ (min k 7 - 3)
+-- how many of an element's bytes its text shows: all of them, as far as the sixteen that a level gives
+unfoldable pub shown_bytes : ℕ → ℕ
+shown_bytes k = min 16 (num_bytes k)
 
 -- the text of an element
 unfoldable pub element_text : {k : ℕ} → Element k → List ℕ
-element_text {k} x = hex (take (byte_count k) (sixteen x))
+element_text {k} x = hex (take (shown_bytes k) (sixteen x))
 
 -- the text writes the element: it is the text of the right number of bytes, and these are the element's coordinates
 pub record Writes {k : ℕ} (text : List ℕ) (x : Element k) : Type 0 where
   pub bytes : List ℕ
-  pub count : length bytes ≡ byte_count k
+  pub count : length bytes ≡ shown_bytes k
   pub octets : Octets bytes
   pub text_is : text ≡ hex bytes
   pub element_is : x ≡ from_sixteen k bytes

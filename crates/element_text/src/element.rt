@@ -2,7 +2,7 @@ ghost use Rattle.std.specs.Prelude.{◌≡◌, ℕ, ◌+◌, ◌*◌, ◌<◌, �
 ghost use Rattle.element_text.specs.Faults.{BadText};
 ghost use Rattle.element_text.specs.Messages.{digit_message, text_message};
 ghost use Rattle.element_text.specs.declared.element.TextFault.TheVariants.{Digit};
-ghost use Rattle.element_text.specs.Hex.{digit_code, byte_count, element_text, Writes, NoDigit, IsDigit, Parsed, Broken, Pair};
+ghost use Rattle.element_text.specs.Hex.{digit_code, shown_bytes, element_text, Writes, NoDigit, IsDigit, Parsed, Broken, Pair};
 
 use crate::hex::{Hex, digit_value};
 use level::level::Level;
@@ -67,7 +67,7 @@ impl From<DigitFault> for TextFault {
 // How many bytes the text of an element shows. Told for every level, where `num_bytes` of `coordinates` is for those of at most 128
 // coordinates alone.
 pub fn byte_count<L: Level>() -> usize
-    ensures value { result ≡ byte_count L.Level.log }
+    ensures value { result ≡ shown_bytes L.Level.log }
     ensures bound { result ≤ 16 }
 {
     1 << (L::log_width().clamp(3, 7) - 3)
@@ -126,8 +126,8 @@ fn parse_bytes(text: &[u8], count: usize) -> Result<[u8; 16], DigitFault>
 
 // The element that a text of the right length writes.
 pub fn parse_digits<L: Level>(text: &[u8]) -> Result<L, DigitFault>
-    requires { length text.now ≡ 2 * byte_count L.Level.log }
-    ensures { MatchResult result (λ x. Writes text.now (L.means x)) (λ fault. (fault.at < 2 * byte_count L.Level.log) × Broken text.now fault.at) }
+    requires { length text.now ≡ 2 * shown_bytes L.Level.log }
+    ensures { MatchResult result (λ x. Writes text.now (L.means x)) (λ fault. (fault.at < 2 * shown_bytes L.Level.log) × Broken text.now fault.at) }
 {
     let bytes = parse_bytes(text, byte_count::<L>())?;
     Ok(L::from_bytes(bytes))
@@ -135,7 +135,7 @@ pub fn parse_digits<L: Level>(text: &[u8]) -> Result<L, DigitFault>
 
 // The element that a text writes.
 pub fn parse_element<L: Level>(text: &[u8]) -> Result<L, TextFault>
-    ensures { MatchResult result (λ x. Writes text.now (L.means x)) (BadText (2 * byte_count L.Level.log) text.now) }
+    ensures { MatchResult result (λ x. Writes text.now (L.means x)) (BadText (2 * shown_bytes L.Level.log) text.now) }
 {
     let expected = 2 * byte_count::<L>();
     let actual = text.len();
