@@ -2,7 +2,7 @@
 use Rattle.std.specs.Prelude.{◌≡◌, ℕ, ◌+◌, ◌*◌, ◌%◌, ◌<◌, ◌≢◌, List, [], ◌∷◌, ◌++◌, length, slice_index}
 use Rattle.std.specs.List.{AllByRecursion}
 use Rattle.level.specs.Element.{Element}
-use Rattle.element_text.specs.Hex.{byte_count, Writes, NoDigit}
+use Rattle.element_text.specs.Hex.{shown_bytes, Writes, NoDigit}
 use Rattle.element_lists.specs.declared.elements.ElementsFault.{ElementsFault}
 use Rattle.element_lists.specs.declared.elements.ElementsFault.TheVariants.{Shape, Digit, Memory}
 
@@ -27,7 +27,7 @@ pub record ElementsOf {k : ℕ} (text : List ℕ) (xs : List (Element k)) : Type
 
 -- the digits of one element of log width k
 abbrev pub digits_of : ℕ → ℕ
-digits_of k = 2 * byte_count k
+digits_of k = 2 * shown_bytes k
 
 -- the character after the element at place i, which has so many digits, is not the space that should stand there
 abbrev pub NoSpace : List ℕ → ℕ → ℕ → Type 0

@@ -3,7 +3,7 @@ use Rattle.std.proofs.Common.{◌≡◌, ℕ, ◌%◌, ◌<◌, ◌≢◌, List,
 use Rattle.std.proofs.lemmas.Bool.Decides.{nat_tests}
 use Rattle.level.specs.Element.{Element}
 use Rattle.level.specs.Bytes.{sixteen}
-use Rattle.element_text.specs.Hex.{digit_code, hex, element_text, byte_count}
+use Rattle.element_text.specs.Hex.{digit_code, hex, element_text, shown_bytes}
 use Rattle.product_line.specs.Letters.{fault_text, NoneTellsOfMemory}
 use Rattle.product_line.specs.declared.line.LineFault.{LineFault}
 use Rattle.product_line.specs.declared.line.LineFault.TheVariants.{Letter, Shape, Digit, Memory}
@@ -21,7 +21,7 @@ hex_second (b ∷ bs) more e =
 
 no_element : {k : ℕ} (x : Element k) (rest : List ℕ) → codes "error: no memory" ++ rest ≡ element_text x → ⊥
 unfolding element_text
-no_element {k} x rest e = hex_second (take (byte_count k) (sixteen x)) _ e
+no_element {k} x rest e = hex_second (take (shown_bytes k) (sixteen x)) _ e
 
 no_fault : (f : LineFault) (rest : List ℕ) → f ≢ Memory → codes "error: no memory" ++ rest ≡ codes "error: " ++ fault_text f → ⊥
 no_fault Letter rest m e = let z : ◌≡◌ {A = ℕ} 109 108 = ap (λ l. get_or l 10 0) e in omega arith

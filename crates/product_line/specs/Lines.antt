@@ -2,7 +2,7 @@
 use Rattle.std.specs.Prelude.{◌≡◌, ℕ, ◌+◌, ◌*◌, ◌<◌, Bool, ◌&&◌, List, ◌∷◌, ◌++◌, length, ◌==◌, ◌≢◌, slice_index}
 use Rattle.level.specs.Element.{Element}
 use Rattle.level.specs.Laws.{Arithmetic}
-use Rattle.element_text.specs.Hex.{Writes, element_text, byte_count, NoDigit}
+use Rattle.element_text.specs.Hex.{Writes, element_text, shown_bytes, NoDigit}
 use Rattle.product_line.specs.declared.line.LineFault.{LineFault}
 use Rattle.product_line.specs.declared.line.LineFault.TheVariants.{Letter, Shape, Digit, Memory}
 
@@ -22,7 +22,7 @@ pub record Product {k : ℕ} (A : Arithmetic k) (rest answer : List ℕ) : Type 
   pub right : List ℕ
   pub x : Element k
   pub y : Element k
-  pub operands : Operands (2 * byte_count k) rest left right
+  pub operands : Operands (2 * shown_bytes k) rest left right
   pub left_writes : Writes left x
   pub right_writes : Writes right y
   pub answer_is : answer ≡ element_text (A.times x y)
@@ -47,6 +47,6 @@ BadOperand digits rest Memory = ⊥
 -- than the two spaces is no digit; or there was no memory for the answer.
 abbrev pub BadRest : ℕ → List ℕ → LineFault → Type 0
 BadRest k rest Letter = ⊥
-BadRest k rest (Shape digits) = (digits ≡ 2 * byte_count k) × ((left right : List ℕ) → Operands digits rest left right → ⊥)
-BadRest k rest (Digit place) = NoDigitAt (2 * byte_count k) rest place
+BadRest k rest (Shape digits) = (digits ≡ 2 * shown_bytes k) × ((left right : List ℕ) → Operands digits rest left right → ⊥)
+BadRest k rest (Digit place) = NoDigitAt (2 * shown_bytes k) rest place
 BadRest k rest Memory = Unit {0}

@@ -1,5 +1,5 @@
 ghost use Rattle.std.specs.Prelude.{◌≡◌, ℕ, Some, ◌+◌, ◌*◌, ◌<◌, ◌≤◌, ◌⊎◌, length, take, drop, string_bytes, MatchResult};
-ghost use Rattle.element_text.specs.Hex.{Writes, byte_count};
+ghost use Rattle.element_text.specs.Hex.{Writes, shown_bytes};
 ghost use Rattle.product_line.specs.declared.line.LineFault.TheVariants.{Letter, Memory};
 ghost use Rattle.product_line.specs.Letters.{fault_text};
 ghost use Rattle.product_line.specs.Lines.{Product, BadOperand, BadRest, shaped};
@@ -77,7 +77,7 @@ fn place(from: usize, at: usize) -> usize
 // The element whose text stands at `from` in what follows the letter. The whole text and a place, since a fault is told by its place in the
 // line.
 fn operand<L: Level>(rest: &[u8], from: usize, digits: usize) -> Result<L, LineFault>
-    requires fits { (digits ≡ 2 * byte_count L.Level.log) × ((from + digits ≤ length rest.now) × (length rest.now ≤ 66)) }
+    requires fits { (digits ≡ 2 * shown_bytes L.Level.log) × ((from + digits ≤ length rest.now) × (length rest.now ≤ 66)) }
     requires start { (from ≡ 1) ⊎ (from ≡ digits + 2) }
     ensures { MatchResult result (λ x. Writes (take digits (drop from rest.now)) (L.means x)) (BadOperand digits rest.now) }
 {
