@@ -2,7 +2,7 @@
 use Rattle.std.specs.Prelude.{◌≡◌, ℕ, ◌*◌, ◌^◌, ◌<◌, ◌≤◌, Bool, true, false, not, ◌&&◌, ◌≢◌, ◌⊎◌, List, [], ◌∷◌, length, is_some, Some, None, Option, ◌==◌, slice_index_or}
 use Rattle.std.specs.Option.{option_to_list}
 use Rattle.level.specs.Element.{Element}
-use Rattle.element_text.specs.Hex.{byte_count}
+use Rattle.element_text.specs.Hex.{shown_bytes}
 use Rattle.multilinear.specs.Equality.{Point}
 use Rattle.element_lists.specs.Bytes.{BytesOf, BadBytes}
 use Rattle.element_lists.specs.Elements.{ElementsOf, BadElements}
@@ -17,7 +17,7 @@ use Rattle.problem.specs.declared.reading.ProblemFault.TheVariants.{NoBatching, 
 
 -- the most bytes that are explained: those of 2^20 packed elements
 abbrev pub most_bytes : ℕ → ℕ
-most_bytes k = 2 ^ 20 * byte_count k
+most_bytes k = 2 ^ 20 * shown_bytes k
 
 -- a text that there may be writes the point that there may be
 abbrev pub OptionalPoint : {k : ℕ} → Option (List ℕ) → Option (Point k) → Type 0

@@ -6,7 +6,7 @@ use Rattle.std.proofs.lemmas.Nat.{shl-shr}
 use Rattle.std.proofs.lemmas.Bool.{ltb-false, eqb-true}
 use Rattle.level.specs.Element.{Element}
 use Rattle.level.specs.Laws.{Arithmetic, Laws}
-use Rattle.element_text.specs.Hex.{byte_count}
+use Rattle.element_text.specs.Hex.{shown_bytes}
 use Rattle.multilinear.specs.Equality.{Point}
 use Rattle.ring_switch.specs.Opening.{View, rest}
 use Rattle.ring_switch.proofs.SlotTensors.{slot}
@@ -54,7 +54,7 @@ few_elements means {A} laws p view outers inners f h =
     subst (λ n. n < 2 ^ 64) (size_is means laws outers inners A.unit (rest A p view) f) (pow-lt short)
 
 -- an element of whole bytes takes an eighth of its width
-pub stride_is : (k : ℕ) → 3 ≤ k → k ≤ 7 → num_bytes k ≡ byte_count k
+pub stride_is : (k : ℕ) → 3 ≤ k → k ≤ 7 → num_bytes k ≡ shown_bytes k
 stride_is k wide narrow =
     let split : 2 ^ k ≡ 2 ^ (k - 3) * 8 = let s : k ≡ (k - 3) + 3 = omega arith in ap (λ i. 2 ^ i) s ∙ pow-add 2 (k - 3) 3 in
     let whole : 2 ^ k / 8 ≡ 2 ^ (k - 3) = ap (λ n. n / 8) split ∙ mul-div_cancel (2 ^ (k - 3)) (lit< tt) in
@@ -68,7 +68,7 @@ matched_width k v n view e = eqb-true v (n - k) (met (eqb v (n - k)) _ (both_pas
 -- how many packed elements bytes are
 pub packed_count : (k n v : ℕ) → 3 ≤ k → Packs k n v → n / num_bytes k ≡ 2 ^ v
 packed_count k n v wide p =
-    ap (λ m. n / m) (stride_is k wide p.narrow) ∙ ap (λ i. i / byte_count k) p.bytes ∙ shl-shr (2 ^ v) (min k 7 - 3)
+    ap (λ m. n / m) (stride_is k wide p.narrow) ∙ ap (λ i. i / shown_bytes k) p.bytes ∙ shl-shr (2 ^ v) (min k 7 - 3)
 
 -- the log of how many there are is that of their packing
 pub log_packs : (k n m v : ℕ) (c : Cells k n) → m ≡ n / num_bytes k → 2 ^ v ≤ m → m < 2 * 2 ^ v → Packs k n v

@@ -4,7 +4,7 @@ use lib.Count.{count_trailing_zeros, under}
 use lib.Pow.{pow-lt}
 use Rattle.std.proofs.lemmas.Nat.{pow-add, shl-shr, mul-le}
 use Rattle.std.proofs.lemmas.Bool.{ltb-false, not-false, cases_lt}
-use Rattle.element_text.specs.Hex.{byte_count}
+use Rattle.element_text.specs.Hex.{shown_bytes}
 use Rattle.refusals.specs.Steps.{told, packing, power_of_two}
 use Rattle.level.specs.Bytes.{num_bytes}
 use Rattle.refusals.proofs.Powers.{powers_of_two}
@@ -57,7 +57,7 @@ module _ (k n : ℕ) (c : Cells k n) where
   pub count : ℕ
   count = 2 ^ (c.log - k)
 
-  pub whole : n ≡ count * byte_count k
+  pub whole : n ≡ count * shown_bytes k
   unfolding count
   whole =
       let s : c.log ≡ (c.log - k) + ((k - 3) + 3) = omega (arith, c.wide, c.enough) in
@@ -67,21 +67,21 @@ module _ (k n : ℕ) (c : Cells k n) where
       let few : k - 3 ≡ min k 7 - 3 = omega (arith, c.narrow) in
       omega (arith, e, ap (λ i. 2 ^ (c.log - k) * 2 ^ i) few)
 
-  pub counted : (m : ℕ) → m ≡ n / byte_count k → m ≡ count
-  counted m e = e ∙ ap (λ i. i / byte_count k) whole ∙ shl-shr count (min k 7 - 3)
+  pub counted : (m : ℕ) → m ≡ n / shown_bytes k → m ≡ count
+  counted m e = e ∙ ap (λ i. i / shown_bytes k) whole ∙ shl-shr count (min k 7 - 3)
 
-  pub some : (m : ℕ) → m ≡ n / byte_count k → 0 < m
+  pub some : (m : ℕ) → m ≡ n / shown_bytes k → 0 < m
   unfolding count
   some m e = omega (arith, counted m e, pow_pos (c.log - k))
 
-  pub packs : (m v : ℕ) → m ≡ n / byte_count k → 2 ^ v ≤ m → m < 2 * 2 ^ v → Packs k n v
+  pub packs : (m v : ℕ) → m ≡ n / shown_bytes k → 2 ^ v ≤ m → m < 2 * 2 ^ v → Packs k n v
   unfolding count
   packs m v e low high =
       let q = counted m e in
       let up = log_le (c.log - k) v (omega arith) in
       let down = log_le v (c.log - k) (omega (arith, pow_pos v)) in
       let same : c.log - k ≡ v = omega arith in
-      record { narrow = c.narrow; bytes = whole ∙ ap (λ i. 2 ^ i * byte_count k) same }
+      record { narrow = c.narrow; bytes = whole ∙ ap (λ i. 2 ^ i * shown_bytes k) same }
 
 trailing_power : (w v : ℕ) → v < w → count_trailing_zeros w (2 ^ v) ≡ v
 unfolding count_trailing_zeros
@@ -98,7 +98,7 @@ module _ (k n v : ℕ) (p : Packs k n v) (small : n ≤ 2 ^ 24) where
 
   pub variables_are : v ≡ variables_of k n
   variables_are =
-      sym (ap (λ m. count_trailing_zeros 64 (m / byte_count k)) p.bytes ∙ ap (count_trailing_zeros 64) (shl-shr (2 ^ v) (min k 7 - 3)) ∙ trailing_power 64 v (omega (arith, few)))
+      sym (ap (λ m. count_trailing_zeros 64 (m / shown_bytes k)) p.bytes ∙ ap (count_trailing_zeros 64) (shl-shr (2 ^ v) (min k 7 - 3)) ∙ trailing_power 64 v (omega (arith, few)))
 
   pub cells_few : 2 ^ v * 2 ^ k ≤ 2 ^ 64
   cells_few =

@@ -2,7 +2,7 @@
 use Rattle.std.specs.Prelude.{◌≡◌, ℕ, zero, suc, ◌/◌, ◌^◌, List, [], ◌∷◌, ◌++◌, length, Some, None, codes, decimal, Option, Result, MatchResult}
 use Rattle.std.specs.Int.Count.{count_trailing_zeros}
 use Rattle.level.specs.Laws.{Arithmetic}
-use Rattle.element_text.specs.Hex.{byte_count, element_text}
+use Rattle.element_text.specs.Hex.{shown_bytes, element_text}
 use Rattle.multilinear.specs.Cells.{cell, packed}
 use Rattle.multilinear.specs.Equality.{Point, equality}
 use Rattle.ring_switch.specs.Batching.{weight, closing_value}
@@ -30,7 +30,7 @@ lines_below (suc n) f = lines_below n f ++ f n
 
 -- how many variables a packing of n bytes is over
 abbrev pub variables_of : ℕ → ℕ → ℕ
-variables_of k n = count_trailing_zeros 64 (n / byte_count k)
+variables_of k n = count_trailing_zeros 64 (n / shown_bytes k)
 
 abbrev pub packed_line : (k : ℕ) → (ℕ → ℕ) → ℕ → List ℕ
 packed_line k bits w = line (codes "packed") (element_text (packed k bits w))
