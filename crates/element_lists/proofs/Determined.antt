@@ -1,10 +1,10 @@
 -- A text writes at most one list of bytes, and at most one list of elements.
-use Rattle.std.proofs.Common.{◌≡◌, ℕ, suc, ◌/◌, ◌%◌, ◌<◌, List, [], ◌∷◌, ◌++◌, length, take, drop, sym, subst, refl, ap, ap₂, ◌∙◌, arith, pow_pos, min, ◌-◌}
+use Rattle.std.proofs.Common.{◌≡◌, ℕ, suc, ◌/◌, ◌%◌, ◌<◌, List, [], ◌∷◌, ◌++◌, length, take, drop, sym, subst, refl, ap, ap₂, ◌∙◌, arith}
 use Rattle.std.proofs.lemmas.Bool.Decides.{nat_tests}
 use Rattle.std.proofs.lemmas.List.{length-append, length_push, take_at, drop_at}
 use Rattle.level.specs.Element.{Element}
 use Rattle.level.specs.Bytes.{Octets, from_sixteen}
-use Rattle.element_text.specs.Hex.{digit_code, hex, Writes}
+use Rattle.element_text.specs.Hex.{digit_code, hex, shown_bytes, Writes}
 use Rattle.element_lists.specs.Bytes.{BytesOf, BytesDetermined}
 use Rattle.element_lists.specs.Elements.{joined, EachWrites, ElementsOf, digits_of, ElementsDetermined}
 use Rattle.element_lists.proofs.Joining.{ended, joined_ended, writes_length}
@@ -56,9 +56,9 @@ module _ {k : ℕ} where
       ap₂ (λ (z : Element k) (l : List (Element k)). z ∷ l) (element_same w.0 (subst (λ r. Writes r y) (sym first) v.0)) (ended_same ts us xs ys w.1 v.1 same)
 
 some_text : (k : ℕ) (t : List ℕ) (ts : List (List ℕ)) → length t ≡ digits_of k → 0 < length (joined (t ∷ ts))
-unfolding ended
+unfolding ended shown_bytes
 some_text k t ts h =
-    omega (arith, h, pow_pos (min k 7 - 3), ap length (joined_ended t ts), length_push (joined (t ∷ ts)) 32, length-append t (32 ∷ ended ts))
+    omega (arith, h, ap length (joined_ended t ts), length_push (joined (t ∷ ts)) 32, length-append t (32 ∷ ended ts))
 
 length_none : length (joined []) ≡ 0
 unfolding joined
