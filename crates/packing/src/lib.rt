@@ -41,9 +41,9 @@ pub fn pack_elements<L: Level>(bits: &[u8], elements: &mut [L]) -> usize
 }
 
 // Packs a table, where it can be packed: the refusal is that of the first test that is not passed, and then the lent elements are
-// left as they were.
+// left as they were. Bytes that are refused need no room.
 pub fn pack<L: Level>(bits: &[u8], elements: &mut [L]) -> Result<usize, BitPackingError>
-    requires { length bits.now / num_bytes (told L.Level.log) ≤ length elements.old }
+    requires { packing (told L.Level.log) (length bits.now) ≡ None → length bits.now / num_bytes (told L.Level.log) ≤ length elements.old }
     ensures refusal { refused packing_refusal result ≡ packing (told L.Level.log) (length bits.now) }
     ensures cases { MatchResult result
         (λ count. (count ≡ length bits.now / num_bytes (told L.Level.log)) × Packed L.means bits.now count elements.old elements.new)

@@ -1,6 +1,5 @@
-use Rattle.std.proofs.Common.{◌≡◌, ◌/◌, ◌≤◌, length, subst, arith}
+use Rattle.std.proofs.Common.{arith}
 use Rattle.refusals.specs.Steps.{told}
-use Rattle.level.specs.Bytes.{num_bytes}
 use Rattle.packing.proofs.ElementsWritten.{levels_packed}
 use Rattle.packing.proofs.pack.Goals as goal
 
