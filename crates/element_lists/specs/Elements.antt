@@ -1,5 +1,5 @@
 -- Lists of elements as text: each element as its text, with single spaces between them.
-use Rattle.std.specs.Prelude.{◌≡◌, ℕ, ◌+◌, ◌*◌, ◌%◌, ◌<◌, ◌≢◌, List, [], ◌∷◌, ◌++◌, length, slice_index}
+use Rattle.std.specs.Prelude.{◌≡◌, ℕ, ◌+◌, ◌*◌, ◌%◌, ◌<◌, ◌≢◌, List, [], ◌∷◌, ◌++◌, length, take, drop, slice_index}
 use Rattle.std.specs.List.{AllByRecursion}
 use Rattle.level.specs.Element.{Element}
 use Rattle.element_text.specs.Hex.{shown_bytes, Writes, NoDigit}
@@ -28,6 +28,11 @@ pub record ElementsOf {k : ℕ} (text : List ℕ) (xs : List (Element k)) : Type
 -- the digits of one element of log width k
 abbrev pub digits_of : ℕ → ℕ
 digits_of k = 2 * shown_bytes k
+
+-- x is the element at place i, of so many digits: its text stands there, and a space after it if any character does
+abbrev pub StandsAt : {k : ℕ} → List ℕ → ℕ → ℕ → Element k → Type 0
+StandsAt text i digits x =
+    Writes (take digits (drop (i * (digits + 1)) text)) x × (i * (digits + 1) + digits < length text → slice_index text (i * (digits + 1) + digits) ≡ 32)
 
 -- the character after the element at place i, which has so many digits, is not the space that should stand there
 abbrev pub NoSpace : List ℕ → ℕ → ℕ → Type 0

@@ -1,6 +1,5 @@
-ghost use Rattle.std.specs.Prelude.{◌≡◌, ◌+◌, ◌*◌, ◌<◌, ◌≤◌, map, length, take, drop, MatchResult, slice_index};
-ghost use Rattle.element_text.specs.Hex.{Writes};
-ghost use Rattle.element_lists.specs.Elements.{ElementsOf, digits_of, BadElement, BadElements, RefusedWriteNoElements, ElementsDetermined};
+ghost use Rattle.std.specs.Prelude.{◌≡◌, ◌+◌, ◌*◌, ◌≤◌, map, length, MatchResult};
+ghost use Rattle.element_lists.specs.Elements.{ElementsOf, StandsAt, digits_of, BadElement, BadElements, RefusedWriteNoElements, ElementsDetermined};
 ghost use Rattle.element_lists.specs.declared.elements.ElementsFault.TheVariants.{Memory};
 
 use element_text::element::{byte_count, parse_digits};
@@ -29,7 +28,7 @@ impl<T: Drop> From<AllocFailed<T>> for ElementsFault {
 // The element at place `i` of a text, where a space follows if any character does.
 fn element_at<L: Level>(text: &[u8], i: usize, digits: usize) -> Result<L, ElementsFault>
     requires { (digits ≡ digits_of L.Level.log) × (i * (digits + 1) + digits ≤ length text.now) }
-    ensures { MatchResult result (λ x. Writes (take digits (drop (i * (digits + 1)) text.now)) (L.means x) × (i * (digits + 1) + digits < length text.now → slice_index text.now (i * (digits + 1) + digits) ≡ 32)) (BadElement L.Level.log text.now i) }
+    ensures { MatchResult result (λ x. StandsAt text.now i digits (L.means x)) (BadElement L.Level.log text.now i) }
 {
     let from = i * (digits + 1);
     let end = from + digits;

@@ -1,5 +1,5 @@
 -- Elements as text: two lower-case hexadecimal digits a byte, byte 0 first, without gaps.
-use Rattle.std.specs.Prelude.{◌≡◌, ℕ, ◌+◌, ◌-◌, ◌*◌, ◌/◌, ◌%◌, ◌<◌, min, cond, List, [], ◌∷◌, length, take, drop, replicate, ◌≢◌, nat_lt, slice_index, slice_index_or}
+use Rattle.std.specs.Prelude.{◌≡◌, ℕ, ◌+◌, ◌-◌, ◌*◌, ◌/◌, ◌%◌, ◌<◌, ◌≤◌, min, cond, List, [], ◌∷◌, length, take, drop, replicate, ◌≢◌, nat_lt, slice_index, slice_index_or}
 use Rattle.level.specs.Element.{Element}
 use Rattle.level.specs.Bytes.{num_bytes, sixteen, from_sixteen, Octets}
 
@@ -52,3 +52,7 @@ pub record Broken (text : List ℕ) (at : ℕ) : Type 0 where
 pub record Pair (text : List ℕ) (j b : ℕ) : Type 0 where
   pub high : slice_index_or text (2 * j) 0 ≡ digit_code (b / 16)
   pub low : slice_index_or text (2 * j + 1) 0 ≡ digit_code (b % 16)
+
+-- the first of the two characters of byte j of a text that is no digit stands at a place
+abbrev pub BrokenPair : List ℕ → ℕ → ℕ → Type 0
+BrokenPair text j at = (at < 2 * j + 2) × (2 * j ≤ at) × NoDigit (slice_index text at) × (2 * j < at → IsDigit (slice_index text (2 * j)))

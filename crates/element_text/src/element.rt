@@ -2,7 +2,7 @@ ghost use Rattle.std.specs.Prelude.{◌≡◌, ℕ, ◌+◌, ◌*◌, ◌<◌, �
 ghost use Rattle.element_text.specs.Faults.{BadText};
 ghost use Rattle.element_text.specs.Messages.{digit_message, text_message};
 ghost use Rattle.element_text.specs.declared.element.TextFault.TheVariants.{Digit};
-ghost use Rattle.element_text.specs.Hex.{digit_code, shown_bytes, element_text, Writes, NoDigit, IsDigit, Parsed, Broken, Pair};
+ghost use Rattle.element_text.specs.Hex.{digit_code, shown_bytes, element_text, Writes, NoDigit, Parsed, Broken, Pair, BrokenPair};
 
 use crate::hex::{Hex, digit_value};
 use level::level::Level;
@@ -104,7 +104,7 @@ fn digit_at(text: &[u8], at: usize) -> Result<u8, DigitFault>
 // Byte `j` of a text, or the first of its two characters that is no digit.
 pub fn parse_byte(text: &[u8], j: usize) -> Result<u8, DigitFault>
     requires { 2 * j + 1 < length text.now }
-    ensures { MatchResult result (Pair text.now j) (λ fault. (fault.at < 2 * j + 2) × (2 * j ≤ fault.at) × NoDigit (slice_index text.now fault.at) × (2 * j < fault.at → IsDigit (slice_index text.now (2 * j)))) }
+    ensures { MatchResult result (Pair text.now j) (λ fault. BrokenPair text.now j fault.at) }
 {
     let high = digit_at(text, 2 * j)?;
     let low = digit_at(text, 2 * j + 1)?;
