@@ -1,73 +1,73 @@
 -- Products and small tables worked by hand, and one table by an independent program: at the tower byte, and one product at the polynomial byte.
-use Rattle.std.specs.Prelude.{◌≡◌, ℕ, ◌-◌, ◌^◌, List, [], ◌∷◌, map, length, Some, None, Option}
+use Rattle.std.specs.Prelude.{◌≡◌, ℕ, List, [], ◌∷◌, map, Some, None}
 use Rattle.level.specs.Element.{Element, cut}
 use Rattle.doubling.specs.Doubled.{tower}
 use Rattle.polynomial.specs.Polynomial.{polynomial}
-use Rattle.multilinear.specs.Cells.{cell, standing, packed, one_row_on}
-use Rattle.multilinear.specs.Equality.{Point, equality, multilinear}
+use Rattle.multilinear.specs.Cells.{cell}
+use Rattle.multilinear.specs.Equality.{Point, equality}
 use Rattle.tensor_algebra.specs.Tensor.{Tensor, one, first_leg, second_leg}
 use Rattle.refusals.specs.Steps.{packing, opening}
-use Rattle.ring_switch.specs.Opening.{View, Prefix, high, low, prefix, rest, slot_start}
-use Rattle.ring_switch.specs.Claims.{tensor, carry, last, incoming, successor_claim}
-use Rattle.ring_switch.specs.Batching.{Stepping, weight, initial_sum, closing_value}
+use Rattle.ring_switch.specs.Opening.{Opening, View, Prefix, low, kept_rows, prefix, rest, slot_start}
+use Rattle.ring_switch.specs.Claims.{incoming, successor_claim}
+use Rattle.ring_switch.specs.Slots.{slot_table, slot_count}
+use Rattle.ring_switch.specs.ClaimLaws.{opened, opened_carry, opened_last, value, value_one_row_on}
+use Rattle.ring_switch.specs.Batching.{weight, initial_sum, closing_value}
 
 abbrev point : List ℕ → Point 3
 point xs = map (cut 3) xs
 
--- the equality table of a point's high coordinates, its packed elements, and how many there are
-abbrev eq_high : List ℕ → ℕ → Element 3
-eq_high p = equality (tower 3) (high (point p))
+-- an opening at a point without a view, and with one that names q row variables
+abbrev alone : List ℕ → Opening 3
+alone p = record { point = point p; view = None }
 
-abbrev elements : List ℕ → ℕ → Element 3
-elements bytes = packed 3 (cell bytes)
+abbrev viewed : List ℕ → ℕ → Opening 3
+viewed p q = record { point = point p; view = Some q }
 
-abbrev count : List ℕ → ℕ
-count p = 2 ^ (length p - 3)
+-- the equality tables of its absorbed coordinates and of its batching point
+abbrev eq_low : Opening 3 → ℕ → Element 3
+eq_low o = equality (tower 3) (low o)
 
-abbrev whole : List ℕ → List ℕ → Tensor 3
-whole bytes p = tensor (count p) (eq_high p) (elements bytes)
-
-abbrev carried : List ℕ → List ℕ → ℕ → Tensor 3
-carried bytes p q = carry (q - 3) (count p) (eq_high p) (elements bytes)
-
-abbrev final : List ℕ → List ℕ → ℕ → Tensor 3
-final bytes p q = last (q - 3) (count p) (eq_high p) (elements bytes)
+abbrev batched : List ℕ → ℕ → Element 3
+batched batching = equality (tower 3) (point batching)
 
 -- the answers about bytes opened at a point, with q row variables, a batching point and a challenge
 abbrev pub incoming_of : List ℕ → List ℕ → ℕ
-incoming_of bytes p = (incoming (tower 3) (low (point p)) (whole bytes p)).number
+incoming_of bytes p = (incoming (tower 3) (eq_low (alone p)) (opened (tower 3) (alone p) (cell bytes))).number
 
 abbrev pub successor_of : List ℕ → List ℕ → ℕ → ℕ
-successor_of bytes p q = (successor_claim (tower 3) (low (point p)) q (whole bytes p) (carried bytes p q) (final bytes p q)).number
-
-abbrev stepping : ℕ → ℕ → Option (Stepping 3)
-stepping q α = Some (record { rows = q - 3; challenge = cut 3 α })
+successor_of bytes p q =
+    let o = viewed p q in
+    (successor_claim (tower 3) (eq_low o) q (opened (tower 3) o (cell bytes)) (opened_carry (tower 3) o (cell bytes)) (opened_last (tower 3) o (cell bytes))).number
 
 abbrev pub initial_of : List ℕ → List ℕ → ℕ → List ℕ → ℕ → ℕ
 initial_of bytes p q batching α =
-    (initial_sum (tower 3) (equality (tower 3) (point batching)) (stepping q α) (whole bytes p) (carried bytes p q) (final bytes p q)).number
+    let o = viewed p q in
+    let t = opened (tower 3) o (cell bytes) in
+    (initial_sum (tower 3) (batched batching) (Some (cut 3 α)) t (opened_carry (tower 3) o (cell bytes)) (opened_last (tower 3) o (cell bytes))).number
 
 abbrev pub weight_of : List ℕ → ℕ → List ℕ → ℕ → ℕ → ℕ
 weight_of p q batching α i =
-    (weight (tower 3) (equality (tower 3) (point batching)) (rest (tower 3) (point p) (Some q)) (stepping q α) i).number
+    let o = viewed p q in
+    (weight (tower 3) (batched batching) (slot_table (tower 3) o) (kept_rows o) (Some (cut 3 α)) i).number
 
 abbrev pub closing_of : List ℕ → ℕ → List ℕ → ℕ → List ℕ → ℕ
 closing_of p q batching α z =
-    (closing_value (tower 3) (equality (tower 3) (point batching)) (rest (tower 3) (point p) (Some q)) (stepping q α) (point z)).number
+    let o = viewed p q in
+    (closing_value (tower 3) (batched batching) (rest (tower 3) o) (kept_rows o) (Some (cut 3 α)) (point z)).number
 
 -- the multilinear value of the bits at a point, and that of the bits one row on with q row variables
 abbrev pub value_of : List ℕ → List ℕ → ℕ
-value_of bytes p = (multilinear (tower 3) (λ c. standing (tower 3) (cell bytes c)) (point p)).number
+value_of bytes p = (value (tower 3) (alone p) (cell bytes)).number
 
-abbrev pub value_one_row_on : List ℕ → List ℕ → ℕ → ℕ
-value_one_row_on bytes p q = (multilinear (tower 3) (λ c. standing (tower 3) (one_row_on q (cell bytes) c)) (point p)).number
+abbrev pub value_one_row_on_of : List ℕ → List ℕ → ℕ → ℕ
+value_one_row_on_of bytes p q = (value_one_row_on (tower 3) (viewed p q) (cell bytes)).number
 
 -- the prefix of an opening and where its slot begins
 abbrev pub prefix_of : List ℕ → View → Prefix
-prefix_of p view = prefix (tower 3) (point p) view
+prefix_of p view = prefix (tower 3) (record { point = point p; view = view })
 
 abbrev pub start_of : List ℕ → View → ℕ
-start_of p view = slot_start (tower 3) (point p) view
+start_of p view = slot_start (tower 3) (record { point = point p; view = view })
 
 -- the first two rows of a tensor
 abbrev pub two_rows : Tensor 3 → List ℕ
@@ -75,7 +75,7 @@ two_rows t = (t 0).number ∷ (t 1).number ∷ []
 
 -- how many weights an opening has
 abbrev pub weights_of : List ℕ → ℕ → ℕ
-weights_of p q = 2 ^ length (rest (tower 3) (point p) (Some q))
+weights_of p q = slot_count (tower 3) (viewed p q)
 
 pub record Worked : Type 0 where
   pub tower_02_02 : ((tower 3).times (cut 3 0x02) (cut 3 0x02)).number ≡ 0x03
@@ -103,10 +103,10 @@ pub record Worked : Type 0 where
   pub step_closing_at_01 : closing_of (0x00 ∷ 0x01 ∷ 0x01 ∷ 0x01 ∷ []) 4 (0x00 ∷ 0x00 ∷ 0x00 ∷ []) 0x02 (0x01 ∷ []) ≡ 0x02
   pub step_closing_at_02 : closing_of (0x00 ∷ 0x01 ∷ 0x01 ∷ 0x01 ∷ []) 4 (0x00 ∷ 0x00 ∷ 0x00 ∷ []) 0x02 (0x02 ∷ []) ≡ 0x00
   pub value_at_coordinate_4 : value_of (0x10 ∷ []) (0x02 ∷ 0x00 ∷ 0x00 ∷ []) ≡ 0x02
-  pub value_one_row_variable : value_one_row_on (0x02 ∷ []) (0x00 ∷ 0x00 ∷ 0x00 ∷ []) 1 ≡ 0x01
-  pub value_no_row_variable : value_one_row_on (0x02 ∷ []) (0x00 ∷ 0x00 ∷ 0x00 ∷ []) 0 ≡ 0x00
-  pub value_reads_itself : value_one_row_on (0x01 ∷ 0x00 ∷ []) (0x01 ∷ 0x01 ∷ 0x01 ∷ 0x01 ∷ []) 4 ≡ 0x00
-  pub value_is_repeated : value_one_row_on (0x00 ∷ 0x80 ∷ []) (0x01 ∷ 0x01 ∷ 0x01 ∷ 0x01 ∷ []) 4 ≡ 0x01
+  pub value_one_row_variable : value_one_row_on_of (0x02 ∷ []) (0x00 ∷ 0x00 ∷ 0x00 ∷ []) 1 ≡ 0x01
+  pub value_no_row_variable : value_one_row_on_of (0x02 ∷ []) (0x00 ∷ 0x00 ∷ 0x00 ∷ []) 0 ≡ 0x00
+  pub value_reads_itself : value_one_row_on_of (0x01 ∷ 0x00 ∷ []) (0x01 ∷ 0x01 ∷ 0x01 ∷ 0x01 ∷ []) 4 ≡ 0x00
+  pub value_is_repeated : value_one_row_on_of (0x00 ∷ 0x80 ∷ []) (0x01 ∷ 0x01 ∷ 0x01 ∷ 0x01 ∷ []) 4 ≡ 0x01
   pub slot_without_view : prefix_of (0x01 ∷ 0x00 ∷ 0x04 ∷ 0x05 ∷ 0x06 ∷ []) None ≡ record { count = 2; address = 2 }
   pub slot_start_without_view : start_of (0x01 ∷ 0x00 ∷ 0x04 ∷ 0x05 ∷ 0x06 ∷ []) None ≡ 2
   pub slot_with_view : prefix_of (0x01 ∷ 0x00 ∷ 0x04 ∷ 0x05 ∷ 0x06 ∷ []) (Some 4) ≡ record { count = 1; address = 1 }
