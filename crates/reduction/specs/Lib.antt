@@ -1,3 +1,2 @@
-pub mod Columns
-pub mod Successors
-pub mod Worked
+pub mod Layout
+pub mod Stretch

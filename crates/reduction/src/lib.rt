@@ -1,11 +1,9 @@
-// A reduction in memory of its own: the tables and tensors of an opening, its claims, its weights and closing values, each formed over
-// lent memory by the crates below. `specs/Worked.antt` says what an opening that has been worked holds.
-// Beside a type over lent slices stands one with vectors, as `Vec` beside a slice, and its `reading` lends it.
+// The reduction over one lent stretch of elements: the opening, the tensors with their tables, the claims, the batching and its weights, the
+// initial sum and the closing value. Nothing in it allocates: `layout` says where each part of the stretch lies.
+//
+// `over` has the steps over slices that know no layout, `steps` and `answers` over the stretch. Each step writes the parts that it
+// forms, and what lies behind them; what lies before them stays as it was.
 #![tactic(auto)]
 
-pub mod batch;
-pub mod opened_claims;
-pub mod per_coordinate;
-pub mod tables;
-mod tensors;
-pub mod work;
+pub mod layout;
+pub mod opened;
