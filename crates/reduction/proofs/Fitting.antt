@@ -32,3 +32,7 @@ end_small k c h g =
     let C' : 2 ^ (c - k) ≤ 140737488355328 = C in
     let b : num_bytes k ≤ 16 = omega (arith, d') in
     let e : layout_end k c < 18446744073709551616 = omega (arith, d', C', b) in e
+
+-- the packed elements of an opened table fit
+pub elements_fit : (k c n : ℕ) → n ≤ c → 2 ^ (n - k) ≤ most k c
+elements_fit k c n h = pow_mono (let e : n - k ≤ c - k = omega arith in e)

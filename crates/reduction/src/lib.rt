@@ -5,5 +5,8 @@
 // forms, and what lies behind them; what lies before them stays as it was.
 #![tactic(auto)]
 
+pub mod answers;
 pub mod layout;
 pub mod opened;
+mod parts;
+pub mod steps;
