@@ -1,1 +1,4 @@
+pub mod Tensors
+pub mod Turns
+pub mod ColumnTurns
 pub mod Folds

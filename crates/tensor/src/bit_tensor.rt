@@ -1,32 +1,135 @@
-ghost use Rattle.std.specs.Prelude.{◌≡◌, ◌<◌, ◌≤◌, map, length};
-ghost use Rattle.level.specs.Element.{width};
+ghost use Rattle.std.specs.Prelude.{◌≡◌, ◌<◌, ◌≤◌, length};
+ghost use Rattle.level.specs.Element.{plus, width};
 ghost use Rattle.multilinear.specs.Lent.{lent};
-ghost use Rattle.tensor_algebra.specs.Tensor.{nothing, one, exterior, add, column, scale_rows, scale_columns, equality_factor, batch_rows, equality_element, successor_element, equality_factors, by_columns};
+ghost use Rattle.tensor_algebra.specs.Subsets.{basis};
+ghost use Rattle.tensor_algebra.specs.Tensor.{nothing, one, exterior, add, column, scale_rows, scale_columns, equality_factor, batch_rows};
 
-use crate::{equality, successor};
+use crate::rows::{self, add_where_set};
 use coordinates::per_coordinate::PerCoordinate;
+use coordinates::{basis, num_bytes, width};
 use level::level::Level;
-use tensor_rows::{columns, rows};
 
-// A tensor over lent rows: d elements, row u at place u. The number of rows is no fact of the type, since `clear`, `add`, `scale_rows`
-// and `elements` do not ask for it. The methods name the functions over rows, which serve callers that hold a part of a longer slice:
-// code in the methods alone would make each such caller build a tensor around its part, and promise that it is the same slice still.
+// One plus x.
+pub(crate) fn one_plus<L: Level>(x: L) -> L
+    ensures { L.means result ≡ plus L.arithmetic.unit (L.means x) }
+{
+    L::one().add(x)
+}
+
+// A tensor over lent rows: d elements, row u at place u.
 #[derive(Drop)]
-pub struct BitTensor<'a, L> {
+pub struct BitTensor<'a, L: Level> {
     pub rows: &'a mut [L],
+    ghost sized: { length rows.now ≡ width L.Level.log },
+    ghost narrow: { L.Level.log ≤ 7 },
 }
 
 impl<'a, L: Level> BitTensor<'a, L> {
-    // The rows.
-    pub fn elements(&self) -> &[L]
-        ensures { result.now ≡ self.now.rows.now }
+    // Becomes the zero tensor.
+    pub fn clear(&mut self)
+        ensures same { self.new.rows.ghost_name ≡ self.old.rows.ghost_name }
+        ensures rows { lent L.means self.new.rows.now ≡ nothing }
     {
-        self.rows
+        rows::clear(self.rows);
     }
 
-    // The rows, where there is one for each coordinate.
-    fn per_coordinate(&self) -> PerCoordinate<'_, L>
-        requires { length self.now.rows.now ≡ width L.Level.log }
+    // Adds a ⊗ b: b to each row whose coordinate of a is set, a byte of coordinates at a time.
+    pub fn add_exterior_product(&mut self, a: L, b: L)
+        ensures same { self.new.rows.ghost_name ≡ self.old.rows.ghost_name }
+        ensures rows { lent L.means self.new.rows.now ≡ add (lent L.means self.old.rows.now) (exterior (L.means a) (L.means b)) }
+    {
+        let bytes = a.to_bytes();
+        let count = width::<L>().min(8);
+
+        // A part of the rows for each byte, since of what is written through `chunks_mut` a proof knows only the length.
+        for (j, byte) in bytes[..num_bytes::<L>()].iter().enumerate() {
+            let start = 8 * j;
+            add_where_set(&mut self.rows[start..start + count], *byte, b);
+        }
+    }
+
+    // Becomes one ⊗ one.
+    pub fn set_one(&mut self)
+        ensures same { self.new.rows.ghost_name ≡ self.old.rows.ghost_name }
+        ensures rows { lent L.means self.new.rows.now ≡ one L.arithmetic }
+    {
+        self.clear();
+        self.add_exterior_product(L::one(), L::one());
+    }
+
+    // Adds other rows, row by row. They are read by index, since after a zip with `iter_mut` nothing is known of what it wrote.
+    pub fn add(&mut self, other: PerCoordinate<L>)
+        ensures same { self.new.rows.ghost_name ≡ self.old.rows.ghost_name }
+        ensures rows { lent L.means self.new.rows.now ≡ add (lent L.means self.old.rows.now) (lent L.means other.entry.elements.now) }
+    {
+        for (u, row) in self.rows.iter_mut().enumerate() {
+            *row = row.add(other.elements[u]);
+        }
+    }
+
+    // Multiplies every row by b.
+    pub fn scale_rows(&mut self, b: L)
+        ensures same { self.new.rows.ghost_name ≡ self.old.rows.ghost_name }
+        ensures rows { lent L.means self.new.rows.now ≡ scale_rows L.arithmetic (L.means b) (lent L.means self.old.rows.now) }
+    {
+        for row in self.rows.iter_mut() {
+            *row = b.mul(*row);
+        }
+    }
+
+    // Adds row u of another tensor, its columns scaled by a: the scaled basis element u beside the row. A zero row adds nothing.
+    fn add_scaled_row(&mut self, u: usize, row: L, a: L)
+        requires { u < width L.Level.log }
+        ensures same { self.new.rows.ghost_name ≡ self.old.rows.ghost_name }
+        ensures rows { lent L.means self.new.rows.now ≡ add (lent L.means self.old.rows.now) (exterior (L.arithmetic.times (L.means a) (basis L.Level.log u)) (L.means row)) }
+    {
+        if !row.equals(L::zero()) {
+            self.add_exterior_product(a.mul(basis(u)), row);
+        }
+    }
+
+    // Adds other rows, their columns scaled by a.
+    pub fn add_scaled_columns(&mut self, other: PerCoordinate<L>, a: L)
+        ensures same { self.new.rows.ghost_name ≡ self.old.rows.ghost_name }
+        ensures rows { lent L.means self.new.rows.now ≡ add (lent L.means self.old.rows.now) (scale_columns L.arithmetic (L.means a) (lent L.means other.entry.elements.now)) }
+    {
+        for (u, row) in other.elements.iter().enumerate() {
+            self.add_scaled_row(u, *row, a);
+        }
+    }
+
+    // Multiplies every column by a. The scratch, d elements, is left zero.
+    pub fn scale_columns(&mut self, a: L, scratch: &mut [L])
+        requires { length scratch.old ≡ width L.Level.log }
+        ensures same { self.new.rows.ghost_name ≡ self.old.rows.ghost_name }
+        ensures rows { lent L.means self.new.rows.now ≡ scale_columns L.arithmetic (L.means a) (lent L.means self.old.rows.now) }
+        ensures scratch { lent L.means scratch.new ≡ nothing }
+    {
+        let mut scaled = BitTensor { rows: scratch };
+        scaled.clear();
+        scaled.add_scaled_columns(self.reading(), a);
+        self.rows.copy_from_slice(scaled.reading().elements);
+        scaled.clear();
+    }
+
+    // Adds to it itself with its columns times a, and itself with its rows times b: the equality factor of a and b. The scratch, d elements,
+    // is left zero.
+    pub fn mul_equality_factor(&mut self, a: L, b: L, scratch: &mut [L])
+        requires { length scratch.old ≡ width L.Level.log }
+        ensures same { self.new.rows.ghost_name ≡ self.old.rows.ghost_name }
+        ensures rows { lent L.means self.new.rows.now ≡ equality_factor L.arithmetic (L.means a) (L.means b) (lent L.means self.old.rows.now) }
+        ensures scratch { lent L.means scratch.new ≡ nothing }
+    {
+        let mut scaled = BitTensor { rows: scratch };
+        scaled.clear();
+        scaled.add_scaled_columns(self.reading(), a);
+        self.scale_rows(one_plus(b));
+        self.add(scaled.reading());
+        scaled.clear();
+    }
+
+    // The rows, to be read.
+    pub fn reading(&self) -> PerCoordinate<'_, L>
         ensures { result.elements.now ≡ self.now.rows.now }
     {
         PerCoordinate {
@@ -34,169 +137,26 @@ impl<'a, L: Level> BitTensor<'a, L> {
         }
     }
 
-    // Becomes the zero tensor.
-    pub fn clear(&mut self)
-        ensures same { self.new.rows.ghost_name ≡ self.old.rows.ghost_name }
-        ensures len { length self.new.rows.now ≡ length self.old.rows.now }
-        ensures rows { lent L.means self.new.rows.now ≡ nothing }
-    {
-        rows::clear(self.rows);
-    }
-
-    // Becomes one ⊗ one.
-    pub fn set_one(&mut self)
-        requires narrow { L.Level.log ≤ 7 }
-        requires rows { length self.old.rows.now ≡ width L.Level.log }
-        ensures same { self.new.rows.ghost_name ≡ self.old.rows.ghost_name }
-        ensures len { length self.new.rows.now ≡ length self.old.rows.now }
-        ensures rows { lent L.means self.new.rows.now ≡ one L.arithmetic }
-    {
-        rows::set_one(self.rows);
-    }
-
-    // Adds a ⊗ b.
-    pub fn add_exterior_product(&mut self, a: L, b: L)
-        requires narrow { L.Level.log ≤ 7 }
-        requires rows { length self.old.rows.now ≡ width L.Level.log }
-        ensures same { self.new.rows.ghost_name ≡ self.old.rows.ghost_name }
-        ensures len { length self.new.rows.now ≡ length self.old.rows.now }
-        ensures rows { lent L.means self.new.rows.now ≡ add (lent L.means self.old.rows.now) (exterior (L.means a) (L.means b)) }
-    {
-        rows::add_exterior_product(self.rows, a, b);
-    }
-
-    // Adds other rows, row by row.
-    pub fn add(&mut self, other: &[L])
-        requires { length other.now ≡ length self.old.rows.now }
-        ensures same { self.new.rows.ghost_name ≡ self.old.rows.ghost_name }
-        ensures len { length self.new.rows.now ≡ length self.old.rows.now }
-        ensures rows { lent L.means self.new.rows.now ≡ add (lent L.means self.old.rows.now) (lent L.means other.now) }
-    {
-        rows::add(self.rows, other);
-    }
-
-    // Multiplies every row by b.
-    pub fn scale_rows(&mut self, b: L)
-        ensures same { self.new.rows.ghost_name ≡ self.old.rows.ghost_name }
-        ensures len { length self.new.rows.now ≡ length self.old.rows.now }
-        ensures rows { lent L.means self.new.rows.now ≡ scale_rows L.arithmetic (L.means b) (lent L.means self.old.rows.now) }
-    {
-        rows::scale_rows(self.rows, b);
-    }
-
-    // Adds other rows with their columns times a.
-    pub fn add_scaled_columns(&mut self, other: PerCoordinate<L>, a: L)
-        requires narrow { L.Level.log ≤ 7 }
-        requires rows { length self.old.rows.now ≡ width L.Level.log }
-        ensures same { self.new.rows.ghost_name ≡ self.old.rows.ghost_name }
-        ensures len { length self.new.rows.now ≡ length self.old.rows.now }
-        ensures rows { lent L.means self.new.rows.now ≡ add (lent L.means self.old.rows.now) (scale_columns L.arithmetic (L.means a) (lent L.means other.entry.elements.now)) }
-    {
-        columns::add_scaled_columns(self.rows, other, a);
-    }
-
-    // Multiplies every column by a. The scratch, d elements, is left zero.
-    pub fn scale_columns(&mut self, a: L, scratch: &mut [L])
-        requires narrow { L.Level.log ≤ 7 }
-        requires rows { length self.old.rows.now ≡ width L.Level.log }
-        requires scratch { length scratch.old ≡ width L.Level.log }
-        ensures same { self.new.rows.ghost_name ≡ self.old.rows.ghost_name }
-        ensures len { length self.new.rows.now ≡ length self.old.rows.now }
-        ensures rows { lent L.means self.new.rows.now ≡ scale_columns L.arithmetic (L.means a) (lent L.means self.old.rows.now) }
-        ensures scratch { lent L.means scratch.new ≡ nothing }
-    {
-        columns::scale_columns(self.rows, a, scratch);
-    }
-
-    // Adds to it itself with its columns times a, and itself with its rows times b: the equality factor of a and b. The scratch, d elements, is left zero.
-    pub fn mul_equality_factor(&mut self, a: L, b: L, scratch: &mut [L])
-        requires narrow { L.Level.log ≤ 7 }
-        requires rows { length self.old.rows.now ≡ width L.Level.log }
-        requires scratch { length scratch.old ≡ width L.Level.log }
-        ensures same { self.new.rows.ghost_name ≡ self.old.rows.ghost_name }
-        ensures len { length self.new.rows.now ≡ length self.old.rows.now }
-        ensures rows { lent L.means self.new.rows.now ≡ equality_factor L.arithmetic (L.means a) (L.means b) (lent L.means self.old.rows.now) }
-        ensures scratch { lent L.means scratch.new ≡ nothing }
-    {
-        columns::mul_equality_factor(self.rows, a, b, scratch);
-    }
-
-    // Multiplies by the equality factors of two points' coordinates, one after the other. The scratch, d elements, is left zero.
-    pub fn mul_equality_factors(&mut self, point: &[L], other: &[L], scratch: &mut [L])
-        requires narrow { L.Level.log ≤ 7 }
-        requires rows { length self.old.rows.now ≡ width L.Level.log }
-        requires scratch { length scratch.old ≡ width L.Level.log }
-        requires points { length other.now ≡ length point.now }
-        ensures same { self.new.rows.ghost_name ≡ self.old.rows.ghost_name }
-        ensures len { length self.new.rows.now ≡ length self.old.rows.now }
-        ensures rows { lent L.means self.new.rows.now ≡ equality_factors L.arithmetic (map L.means point.now) (map L.means other.now) (lent L.means self.old.rows.now) }
-        ensures scratch { lent L.means scratch.new ≡ nothing }
-    {
-        equality::equality_factors(self.rows, point, other, scratch);
-    }
-
-    // Becomes the equality element of two points. The scratch, d elements, is left zero.
-    pub fn equality_element(&mut self, point: &[L], other: &[L], scratch: &mut [L])
-        requires narrow { L.Level.log ≤ 7 }
-        requires rows { length self.old.rows.now ≡ width L.Level.log }
-        requires scratch { length scratch.old ≡ width L.Level.log }
-        requires points { length other.now ≡ length point.now }
-        ensures same { self.new.rows.ghost_name ≡ self.old.rows.ghost_name }
-        ensures len { length self.new.rows.now ≡ length self.old.rows.now }
-        ensures rows { lent L.means self.new.rows.now ≡ equality_element L.arithmetic (map L.means point.now) (map L.means other.now) }
-        ensures scratch { lent L.means scratch.new ≡ nothing }
-    {
-        equality::equality_element(self.rows, point, other, scratch);
-    }
-
-    // Becomes the successor element of two points. The scratch, d elements, is left zero.
-    pub fn successor_element(&mut self, point: &[L], other: &[L], scratch: &mut [L])
-        requires narrow { L.Level.log ≤ 7 }
-        requires rows { length self.old.rows.now ≡ width L.Level.log }
-        requires scratch { length scratch.old ≡ width L.Level.log }
-        requires points { length other.now ≡ length point.now }
-        ensures same { self.new.rows.ghost_name ≡ self.old.rows.ghost_name }
-        ensures len { length self.new.rows.now ≡ length self.old.rows.now }
-        ensures rows { lent L.means self.new.rows.now ≡ successor_element L.arithmetic (map L.means point.now) (map L.means other.now) }
-        ensures scratch { lent L.means scratch.new ≡ nothing }
-    {
-        successor::successor_element(self.rows, point, other, scratch);
-    }
-
     // Column v, read as an element.
     pub fn column(&self, v: usize) -> L
-        requires narrow { L.Level.log ≤ 7 }
-        requires rows { length self.now.rows.now ≡ width L.Level.log }
-        requires read { v < width L.Level.log }
+        requires { v < width L.Level.log }
         ensures { L.means result ≡ column (lent L.means self.now.rows.now) v }
     {
-        columns::column(self.per_coordinate(), v)
+        self.reading().column(v)
     }
 
     // Writes every column, column v at place v.
     pub fn columns(&self, out: &mut [L])
-        requires narrow { L.Level.log ≤ 7 }
-        requires rows { length self.now.rows.now ≡ width L.Level.log }
-        requires out { length out.old ≡ width L.Level.log }
+        requires { length out.old ≡ width L.Level.log }
         ensures { lent L.means out.new ≡ column (lent L.means self.now.rows.now) }
     {
-        columns::columns(self.per_coordinate(), out);
+        self.reading().columns(out);
     }
 
-    // The sum of all columns, column v times weight v.
-    pub fn by_columns(&self, weights: PerCoordinate<L>) -> L
-        requires narrow { L.Level.log ≤ 7 }
-        requires rows { length self.now.rows.now ≡ width L.Level.log }
-        ensures { L.means result ≡ by_columns L.arithmetic (lent L.means weights.entry.elements.now) (lent L.means self.now.rows.now) }
-    {
-        columns::by_columns(self.per_coordinate(), weights)
-    }
-
-    // The sum of all rows, row u times weight u.
+    // The sum of the rows, row u times weight u.
     pub fn batch_rows(&self, weights: PerCoordinate<L>) -> L
-        requires rows { length self.now.rows.now ≡ width L.Level.log }
         ensures { L.means result ≡ batch_rows L.arithmetic (lent L.means weights.entry.elements.now) (lent L.means self.now.rows.now) }
     {
-        rows::batch_rows(self.per_coordinate(), weights)
+        self.reading().batch_rows(weights)
     }
 }

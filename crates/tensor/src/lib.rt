@@ -1,10 +1,10 @@
-// A tensor of a level over lent rows, `BitTensor`, and the tensors of two points: equality factors, the equality element and the
-// successor element. Scratch is lent too: d elements, d the level's width, which are left zero.
-// A slice that is written keeps a clause on its length: a struct over it would owe, in each function that writes, a clause that it is still
-// the same slice. So rows and scratch are two slices; and two points are two, of one length, since a pair
-// of them would be taken apart where each is cut at its rows.
+// The tensor algebra of a level over lent rows, a slice of d elements with row u at place u, d the level's width: sums of exterior products,
+// scalings of rows and columns, and the tensors of two points. Scratch is lent too, slices of d elements, which are left zero.
+// The two legs of an exterior product are two arguments, as the factors of a product are, and so are two points of one length.
 #![tactic(auto)]
 
 pub mod bit_tensor;
-pub mod equality;
-pub mod successor;
+mod equality;
+pub mod rows;
+mod successor;
+pub mod successor_tensors;

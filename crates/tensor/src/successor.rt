@@ -1,24 +1,18 @@
-ghost use Rattle.std.specs.Prelude.{◌≡◌, ◌≤◌, map, length};
+ghost use Rattle.std.specs.Prelude.{◌≡◌, map, length};
 ghost use Rattle.level.specs.Element.{plus, width};
 ghost use Rattle.multilinear.specs.Lent.{lent};
-ghost use Rattle.tensor_algebra.specs.Tensor.{nothing, exterior, add, equality_factor, successor_element};
+ghost use Rattle.tensor_algebra.specs.Tensor.{nothing, successor_element};
+ghost use Rattle.tensor.specs.Steps.{stepped};
 
+use crate::bit_tensor::{BitTensor, one_plus};
+use crate::rows::clear;
 use level::level::Level;
-use tensor_rows::columns::mul_equality_factor;
-use tensor_rows::rows::{add_exterior_product, clear};
 
 // The carry of the coordinates passed so far, an exterior product: its two legs.
 #[derive(Clone, Copy)]
 struct Carry<L> {
     first: L,
     second: L,
-}
-
-// One plus x.
-fn one_plus<L: Level>(x: L) -> L
-    ensures { L.means result ≡ plus L.arithmetic.unit (L.means x) }
-{
-    L::one().add(x)
 }
 
 // The carry past a coordinate a of the first point and b of the second.
@@ -32,35 +26,35 @@ fn passed<L: Level>(carry: Carry<L>, a: L, b: L) -> Carry<L>
     }
 }
 
-// One coordinate of each point: multiplies by their equality factor, and adds the carry that settles there.
-fn settle<L: Level>(rows: &mut [L], a: L, b: L, carry: Carry<L>, scratch: &mut [L])
-    requires narrow { L.Level.log ≤ 7 }
-    requires rows { length rows.old ≡ width L.Level.log }
-    requires scratch { length scratch.old ≡ width L.Level.log }
-    ensures rows { lent L.means rows.new ≡ add (equality_factor L.arithmetic (L.means a) (L.means b) (lent L.means rows.old)) (exterior (L.arithmetic.times (L.means carry.first) (plus L.arithmetic.unit (L.means a))) (L.arithmetic.times (L.means carry.second) (L.means b))) }
-    ensures scratch { lent L.means scratch.new ≡ nothing }
-{
-    mul_equality_factor(rows, a, b, scratch);
-    add_exterior_product(rows, carry.first.mul(one_plus(a)), carry.second.mul(b));
-}
+impl<'a, L: Level> BitTensor<'a, L> {
+    // One coordinate of each point: multiplies by their equality factor, and adds the carry that settles there.
+    fn settle(&mut self, a: L, b: L, carry: Carry<L>, scratch: &mut [L])
+        requires { length scratch.old ≡ width L.Level.log }
+        ensures same { self.new.rows.ghost_name ≡ self.old.rows.ghost_name }
+        ensures rows { lent L.means self.new.rows.now ≡ stepped L.arithmetic (L.means a) (L.means b) (L.means carry.first) (L.means carry.second) (lent L.means self.old.rows.now) }
+        ensures scratch { lent L.means scratch.new ≡ nothing }
+    {
+        self.mul_equality_factor(a, b, scratch);
+        self.add_exterior_product(carry.first.mul(one_plus(a)), carry.second.mul(b));
+    }
 
-// Makes the rows those of the successor element of two points, folded from their last coordinates to their first.
-pub fn successor_element<L: Level>(rows: &mut [L], point: &[L], other: &[L], scratch: &mut [L])
-    requires narrow { L.Level.log ≤ 7 }
-    requires rows { length rows.old ≡ width L.Level.log }
-    requires scratch { length scratch.old ≡ width L.Level.log }
-    requires points { length other.now ≡ length point.now }
-    ensures rows { lent L.means rows.new ≡ successor_element L.arithmetic (map L.means point.now) (map L.means other.now) }
-    ensures scratch { lent L.means scratch.new ≡ nothing }
-{
-    clear(rows);
-    clear(scratch);
-    let mut carry = Carry {
-        first: L::one(),
-        second: L::one(),
-    };
-    for (a, b) in point.iter().rev().zip(other.iter().rev()) {
-        settle(rows, *a, *b, carry, scratch);
-        carry = passed(carry, *a, *b);
+    // Becomes the successor element of two points, folded from their last coordinates to their first. The scratch, d elements, is left zero.
+    pub fn successor_element(&mut self, point: &[L], other: &[L], scratch: &mut [L])
+        requires scratch { length scratch.old ≡ width L.Level.log }
+        requires points { length other.now ≡ length point.now }
+        ensures same { self.new.rows.ghost_name ≡ self.old.rows.ghost_name }
+        ensures rows { lent L.means self.new.rows.now ≡ successor_element L.arithmetic (map L.means point.now) (map L.means other.now) }
+        ensures scratch { lent L.means scratch.new ≡ nothing }
+    {
+        self.clear();
+        clear(scratch);
+        let mut carry = Carry {
+            first: L::one(),
+            second: L::one(),
+        };
+        for (a, b) in point.iter().rev().zip(other.iter().rev()) {
+            self.settle(*a, *b, carry, scratch);
+            carry = passed(carry, *a, *b);
+        }
     }
 }

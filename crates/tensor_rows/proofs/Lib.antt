@@ -1,5 +1,0 @@
-pub mod Tensors
-pub mod Turns
-pub mod ColumnSums
-pub mod ColumnTurns
-pub mod Transposed
