@@ -8,5 +8,6 @@
 pub mod answers;
 pub mod layout;
 pub mod opened;
+mod over;
 mod parts;
 pub mod steps;

@@ -1,0 +1,57 @@
+// The steps over slices that know no layout.
+ghost use Rattle.std.specs.Prelude.{◌≡◌, ◌+◌, ◌-◌, ◌*◌, ◌%◌, ◌^◌, ◌<◌, ◌≤◌, map, length};
+ghost use Rattle.level.specs.Element.{width};
+ghost use Rattle.multilinear.specs.Lent.{lent};
+ghost use Rattle.ring_switch.specs.Opening.{low, rest};
+ghost use Rattle.equality.specs.Tables.{Tabulated};
+ghost use Rattle.reduction.specs.Layout.{outer_entries, inner_entries};
+ghost use Rattle.reduction.specs.Stretch.{Fits, opening_at as opening_of_point};
+ghost use Rattle.reduction.specs.Worked.{BeginFactors};
+
+use crate::opened::Opened;
+use crate::parts::{inner_entries, opening_at, outer_entries};
+use equality::factored::factor;
+use equality::table::equality_table;
+use level::level::Level;
+
+// Writes the factors of a point's equality table to the front of two slices.
+fn factors_into<L: Level>(outers: &mut [L], inners: &mut [L], point: &[L])
+    requires short { length point.now < 64 }
+    requires outers { outer_entries (length point.now) ≤ length outers.old }
+    requires inners { inner_entries (length point.now) ≤ length inners.old }
+    ensures { BeginFactors L.means L.arithmetic (map L.means point.now) outers.new inners.new }
+{
+    let outer = &mut outers[..outer_entries(point.len())];
+    let inner = &mut inners[..inner_entries(point.len())];
+    factor(outer, inner, point, L::one());
+}
+
+// Writes the factors of the equality table of a slot to the front of two slices, each with room for every packed element.
+pub(crate) fn slot_factors<L: Level>(
+    point: &[L],
+    opened: Opened,
+    outers: &mut [L],
+    inners: &mut [L],
+)
+    requires narrow { L.Level.log ≤ 7 }
+    requires few { opened.variables < 64 }
+    requires fits { Fits L.Level opened point.now }
+    requires outers { 2 ^ (opened.variables - L.Level.log) ≤ length outers.old }
+    requires inners { 2 ^ (opened.variables - L.Level.log) ≤ length inners.old }
+    ensures { BeginFactors L.means L.arithmetic (rest L.arithmetic (opening_of_point L.Level opened point.now)) outers.new inners.new }
+{
+    let reduction = opening_at(point, opened);
+    factors_into(outers, inners, reduction.rest());
+}
+
+// Writes the equality table of the coordinates that a packed element absorbs.
+pub(crate) fn low_table<L: Level>(point: &[L], opened: Opened, table: &mut [L])
+    requires narrow { L.Level.log ≤ 7 }
+    requires few { opened.variables < 64 }
+    requires fits { Fits L.Level opened point.now }
+    requires table { length table.old ≡ width L.Level.log }
+    ensures { Tabulated L.means L.arithmetic L.arithmetic.unit (low (opening_of_point L.Level opened point.now)) table.new }
+{
+    let reduction = opening_at(point, opened);
+    equality_table(table, reduction.low(), L::one());
+}
