@@ -3,7 +3,7 @@ use Rattle.std.proofs.Common.{◌≡◌, ℕ, ◌+◌, ◌*◌, ◌^◌, ◌<◌
 use Rattle.std.proofs.lemmas.List.{length-take}
 use Rattle.std.proofs.lemmas.Bool.{cases_eq, eq-eqb, ne_eqb}
 use Rattle.level.specs.Element.{Element, plus}
-use Rattle.level.specs.Bytes.{sixteen}
+use Rattle.level.specs.Bytes.{sixteen, num_bytes}
 use Rattle.level.proofs.Elements.{plus_zeros}
 use Rattle.level.proofs.Digits.{digit_at, bytes_are_coordinates}
 use Rattle.multilinear.specs.Lent.{lent}
@@ -13,10 +13,10 @@ use Rattle.tensor_algebra.specs.Subsets.{byte}
 use Rattle.tensor_algebra.specs.Tensor.{nothing}
 use Rattle.tensor_algebra.specs.Buckets.{bucket}
 use Rattle.tensor_algebra.proofs.Kept.{where_in, where_out}
-use Rattle.products.specs.Buckets.{bytes, Empty, Added, Bucketed}
+use Rattle.products.specs.Buckets.{Empty, Added, Bucketed}
 
--- an element of at most 128 coordinates fills at most sixteen bytes
-pub few_bytes : (k : ℕ) → k ≤ 7 → bytes k ≤ 16
+-- an element of at most 128 coordinates takes at most sixteen bytes
+pub few_bytes : (k : ℕ) → k ≤ 7 → num_bytes k ≤ 16
 few_bytes k h = let few : 2 ^ k ≤ 2 ^ 7 = pow_mono h in omega arith
 
 -- b is added into one bucket of each byte below `done`
@@ -57,7 +57,7 @@ unfolding sixteen
 byte_shown x i h = digit_at 16 x.number i h
 
 -- all bytes of a
-pub adding_ends : {k : ℕ} (a b : Element k) (all : List ℕ) (done n : ℕ) (before after : ℕ → Element k) → k ≤ 7 → all ≡ sixteen a → n ≡ bytes k
+pub adding_ends : {k : ℕ} (a b : Element k) (all : List ℕ) (done n : ℕ) (before after : ℕ → Element k) → k ≤ 7 → all ≡ sixteen a → n ≡ num_bytes k
     → length (take n all) ≤ done → Adding (take n all) b done before after → Added a b before after
 adding_ends {k} a b all done n before after narrow shown e h w j s l g =
     let inside : j < n = omega arith in

@@ -9,9 +9,9 @@ use Rattle.multilinear.proofs.Sums.{sum_same}
 use Rattle.products.specs.Halves.{Halved, halvings, with_bit}
 use Rattle.products.proofs.RowsByHalves.{at_most, highest_row}
 
--- the rows of the bits from `left` on are read out, after as many halvings
-pub record Reading {k : ℕ} (left : ℕ) (before after rows_after : ℕ → Element k) : Type 0 where
-  pub rows : (i : ℕ) → left ≤ i → i < 8 → rows_after i ≡ with_bit i before
+-- of a byte's `count` rows those of the bits from `left` on are read out, after as many halvings
+pub record Reading {k : ℕ} (count left : ℕ) (before after rows_after : ℕ → Element k) : Type 0 where
+  pub rows : (i : ℕ) → left ≤ i → i < count → rows_after i ≡ with_bit i before
   pub buckets : (s : ℕ) → s < 256 → after s ≡ halvings (8 - left) before s
 
 module _ {k : ℕ} (n half : ℕ) (f after halved : ℕ → Element k) (h : n < 8) (size : half ≡ 2 ^ (7 - n)) (step : Halved half half after halved)
@@ -35,17 +35,17 @@ module _ {k : ℕ} (n half : ℕ) (f after halved : ℕ → Element k) (h : n < 
   row_is = sum_same half _ _ upper ∙ ap (λ a. sum a (λ s. halvings n f (a + s))) size ∙ sym (highest_row n f h)
 
 module _ {k : ℕ} (before : ℕ → Element k) where
-  pub reading_begins : (rows : ℕ → Element k) → Reading 8 before before rows
+  pub reading_begins : (count : ℕ) (rows : ℕ → Element k) → count ≤ 8 → Reading count 8 before before rows
   unfolding halvings
-  reading_begins rows = record { rows = λ i h l. absurd (omega arith); buckets = λ s h. refl }
+  reading_begins count rows few = record { rows = λ i h l. absurd (omega arith); buckets = λ s h. refl }
 
   -- one bit more
-  pub reading_more : {X : Type 0} (means : X → Element k) (left half : ℕ) (after halved : ℕ → Element k) (ys : List X) (x : X)
-      → 0 < left → left ≤ 8 → 8 ≤ length ys → half ≡ 2 ^ (left - 1) → Halved half half after halved
+  pub reading_more : {X : Type 0} (means : X → Element k) (count left half : ℕ) (after halved : ℕ → Element k) (ys : List X) (x : X)
+      → 0 < left → left ≤ 8 → count ≤ length ys → half ≡ 2 ^ (left - 1) → Halved half half after halved
       → means x ≡ sum half (λ s. after (half + s))
-      → Reading left before after (lent means ys)
-      → Reading (left - 1) before halved (lent means (set ys (left - 1) x))
-  reading_more means left half after halved ys x pos l fits size step made w =
+      → Reading count left before after (lent means ys)
+      → Reading count (left - 1) before halved (lent means (set ys (left - 1) x))
+  reading_more means count left half after halved ys x pos l fits size step made w =
       let i = left - 1 in
       let n = 8 - left in
       let p : i ≡ 7 - n = omega arith in

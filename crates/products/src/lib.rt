@@ -1,8 +1,6 @@
 // Sums of exterior products over lent memory, gathered in buckets by the bytes of their left factors and read out row by row.
 // One list of left factors serves many blocks of right factors; shifted by one place, it serves the carry.
 // Left and right factors are two slices of one length, since one list of left factors serves many blocks.
-// A slice that is written keeps a clause on its length: a struct over it would owe, in each function that writes, a clause that it is still
-// the same slice.
 #![tactic(auto)]
 
 pub mod buckets;

@@ -1,12 +1,12 @@
 // Rows read out of buckets.
-ghost use Rattle.std.specs.Prelude.{◌≡◌, ℕ, ◌+◌, ◌*◌, ◌^◌, ◌<◌, ◌≤◌, length};
-ghost use Rattle.level.specs.Element.{Element, width};
+ghost use Rattle.std.specs.Prelude.{◌≡◌, ◌+◌, ◌*◌, ◌^◌, ◌<◌, ◌≤◌, length, slice_set};
+ghost use Rattle.level.specs.Bytes.{num_bytes};
+ghost use Rattle.level.specs.Element.{width};
 ghost use Rattle.multilinear.specs.Lent.{lent};
 ghost use Rattle.multilinear.specs.Sums.{sum};
-ghost use Rattle.products.specs.Buckets.{bytes, Bucketed, Summed};
-ghost use Rattle.products.specs.Halves.{Halved, of_byte, ByteRead, AllHalved};
+ghost use Rattle.products.specs.Halves.{Halved, of_byte, ByteRead, RowsOf, AllHalved};
 
-use coordinates::whole_bytes;
+use coordinates::{num_bytes, width};
 use level::level::Level;
 
 // Adds the upper of two halves of `half` buckets into the lower, and returns the sum of the upper. The number stands beside the buckets, of
@@ -36,33 +36,43 @@ fn half(i: usize) -> usize
     1 << i
 }
 
+// Writes row i, where there is one: an element of fewer than eight coordinates has fewer rows than a byte has bits.
+fn write_row<L: Level>(rows: &mut [L], i: usize, row: L)
+    ensures { rows.new ≡ slice_set rows.old i row }
+{
+    if i < rows.len() {
+        rows[i] = row;
+    }
+}
+
 // Reads the rows of one byte out of its buckets, from the highest bit down. It takes 510 additions, two for each value but 0; adding each
 // bucket into the rows of its set bits would take 1024.
 fn read_byte<L: Level>(buckets: &mut [L], rows: &mut [L])
     requires buckets { length buckets.old ≡ 256 }
-    requires rows { length rows.old ≡ 8 }
-    ensures { ByteRead (lent L.means buckets.old) (lent L.means buckets.new) (lent L.means rows.new) }
+    requires rows { length rows.old ≤ 8 }
+    ensures { ByteRead (length rows.old) (lent L.means buckets.old) (lent L.means buckets.new) (lent L.means rows.new) }
 {
     // Numbers of bits, since of what is written through `iter_mut().rev()` a proof knows only the length.
     for i in (0..8).rev() {
-        rows[i] = halve(buckets, half(i));
+        write_row(rows, i, halve(buckets, half(i)));
     }
 }
 
 // Reads all rows out of the buckets, which are left halved.
 pub(crate) fn read_rows<L: Level>(buckets: &mut [L], rows: &mut [L])
-    requires wide { 3 ≤ L.Level.log }
     requires narrow { L.Level.log ≤ 7 }
-    requires buckets { length buckets.old ≡ 256 * bytes L.Level.log }
+    requires buckets { length buckets.old ≡ 256 * num_bytes L.Level.log }
     requires rows { length rows.old ≡ width L.Level.log }
-    ensures rows { (a b : ℕ → Element L.Level.log) (n : ℕ) → Bucketed a b n (lent L.means buckets.old) → Summed a b n (lent L.means rows.new) }
-    ensures buckets { AllHalved (λ j. of_byte j (lent L.means buckets.old)) (lent L.means buckets.new) }
+    ensures rows { RowsOf (lent L.means buckets.old) (lent L.means rows.new) }
+    ensures halved { AllHalved (λ j. of_byte j (lent L.means buckets.old)) (lent L.means buckets.new) }
 {
+    let count = width::<L>().min(8);
+
     // Numbers of bytes, since of what is written through `chunks_exact_mut` a proof knows only the length.
-    for j in 0..whole_bytes::<L>() {
+    for j in 0..num_bytes::<L>() {
         read_byte(
             &mut buckets[256 * j..256 * j + 256],
-            &mut rows[8 * j..8 * j + 8],
+            &mut rows[8 * j..8 * j + count],
         );
     }
 }
