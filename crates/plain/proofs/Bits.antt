@@ -1,6 +1,7 @@
 -- What stands at a bit, and cells by their place in a column.
-use Rattle.std.proofs.Common.{◌≡◌, ℕ, zero, suc, ◌+◌, ◌-◌, ◌%◌, ◌^◌, ◌<◌, ◌≤◌, true, false, sym, refl, ap, ◌∙◌, ⊎_elim, arith}
+use Rattle.std.proofs.Common.{◌≡◌, ℕ, zero, suc, ◌+◌, ◌-◌, ◌%◌, ◌^◌, ◌<◌, ◌≤◌, true, false, sym, refl, ap, ◌∙◌, ⊎_elim, Some, None, arith}
 use lib.Pow.{ones_split, ones_lt}
+use Rattle.std.specs.Option.{unwrap_or}
 use Rattle.std.proofs.lemmas.Nat.{mod_low}
 use Rattle.std.proofs.lemmas.Bool.{eq-eqb, both_ways, cond-true, cond-false, cases_eq}
 use Rattle.level.specs.Element.{Element, zeros}
@@ -8,6 +9,7 @@ use Rattle.level.specs.Laws.{Arithmetic}
 use Rattle.multilinear.specs.Sums.{at_bit}
 use Rattle.multilinear.specs.Cells.{standing, successor}
 use Rattle.multilinear.specs.Columns.{ends}
+use Rattle.ring_switch.specs.Opening.{View, named}
 
 module _ {k : ℕ} where
   pub at_bit_clear : (b : ℕ) (x y : Element k) → b ≡ 0 → y ≡ zeros k → y ≡ at_bit b x
@@ -48,3 +50,8 @@ successor_stays q c e = sym (cond-true (ends q c) c (c + 1) (sym e))
 pub successor_steps : (q c : ℕ) → false ≡ ends q c → c + 1 ≡ successor q c
 unfolding successor
 successor_steps q c e = sym (cond-false (ends q c) c (c + 1) (sym e))
+
+-- how many row variables a view names, none where there is no view
+pub named_or_none : (view : View) → unwrap_or view 0 ≡ named view
+named_or_none None = refl
+named_or_none (Some q) = refl

@@ -3,8 +3,6 @@ pub mod Entry
 pub mod Bits
 pub mod Summing
 pub mod Packing
-pub mod Prefixes
 pub mod SetCoordinates
 pub mod Weights
 pub mod InitialSums
-pub mod Claimed

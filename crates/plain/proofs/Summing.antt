@@ -1,5 +1,5 @@
 -- A loop that sums terms one by one.
-use Rattle.std.proofs.Common.{◌≡◌, ℕ, ◌+◌, ◌*◌, ◌%◌, ◌^◌, ◌<◌, length, sym, ap, ◌∙◌, ap₂, add-one}
+use Rattle.std.proofs.Common.{◌≡◌, ℕ, ◌+◌, ◌*◌, ◌%◌, ◌^◌, ◌<◌, ◌≤◌, length, sym, ap, ◌∙◌, ap₂, add-one, le_trans, mul-le-mul_right, pow-add, pow_mono, arith}
 use Rattle.std.proofs.lemmas.Nat.{one_shl}
 use Rattle.level.specs.Element.{Element, plus, zeros}
 use Rattle.level.specs.Laws.{Arithmetic}
@@ -30,3 +30,14 @@ multilinear_sum {k} A table p l s len h e =
 -- a term whose first factor is known
 pub term_is : {k : ℕ} (A : Arithmetic k) (r x y e : Element k) → r ≡ A.times x e → x ≡ y → r ≡ A.times y e
 term_is A r x y e made same = made ∙ ap (λ z. A.times z e) same
+
+-- a slot of 2^l packed elements of 2^k cells each, within a table of 2^n cells
+pub slot_room : (s i v k n l : ℕ) → s + 2 ^ l ≤ 2 ^ v → i < (1 * 2 ^ l) % 2 ^ 64 → v + k ≡ n → n < 64 → l < 64
+    → (s + i < 2 ^ 64) × ((s + i + 1) * 2 ^ k ≤ 2 ^ 64)
+slot_room s i v k n l within below whole few short =
+    let first : i < 2 ^ l = omega (arith, one_shl l 64 short) in
+    let room : n ≤ 64 = omega arith in
+    let past : s + i + 1 ≤ 2 ^ v = omega arith in
+    let all : 2 ^ v * 2 ^ k ≤ 2 ^ 64 = omega (arith, pow-add 2 v k, ap (λ j. 2 ^ j) whole, pow_mono room) in
+    let kept : v ≤ 64 = omega arith in
+    (omega (arith, pow_mono kept), le_trans (mul-le-mul_right (2 ^ k) past) all)

@@ -1,124 +1,82 @@
-ghost use Rattle.std.specs.Prelude.{◌≡◌, ◌+◌, ◌*◌, ◌^◌, ◌<◌, ◌≤◌, not, map, length, IfSome};
+// What a batching comes to, weight by weight.
+ghost use Rattle.std.specs.Prelude.{◌≡◌, ◌+◌, ◌*◌, ◌^◌, ◌<◌, ◌≤◌, not, map, length};
 ghost use Rattle.level.specs.Element.{plus, width};
-ghost use Rattle.multilinear.specs.Sums.{sum, where_set};
-ghost use Rattle.multilinear.specs.Equality.{equality, multilinear};
-ghost use Rattle.multilinear.specs.Cells.{cell, packed};
+ghost use Rattle.multilinear.specs.Sums.{where_set};
+ghost use Rattle.multilinear.specs.Equality.{multilinear};
+ghost use Rattle.multilinear.specs.Cells.{cell};
 ghost use Rattle.multilinear.specs.Columns.{starts, ends};
-ghost use Rattle.ring_switch.specs.Batching.{settled, closing_value};
-ghost use Rattle.ring_switch.specs.BatchingLaws.{RowsWithin};
-ghost use Rattle.plain.specs.Openings.{InitialSumOf};
-ghost use Rattle.plain.specs.Steps.{steps};
-ghost use Rattle.std.proofs.Props.{props};
+ghost use Rattle.ring_switch.specs.Slots.{slot_table};
+ghost use Rattle.ring_switch.specs.Batching.{settled};
+ghost use Rattle.opening.specs.Openings.{opening_of};
+ghost use Rattle.opening.specs.Batches.{rows_of, weights_of};
+ghost use Rattle.plain.specs.Batches.{weighted_sum, initial_of, carried_weight};
 
 use crate::cells::packed_element;
 use crate::points::equality_entry;
-use crate::stepping::Stepping;
-use crate::subsets::subset_sum_of;
+use crate::subsets::subset_sum;
 use crate::sums::{sum_of, value_at};
 use columns::Columns;
 use level::level::Level;
-use std::alloc::AllocError;
+use opening::batch::BitRingSwitchBatch;
 
 // x where the test holds, else zero.
 #[tactic(auto, unfolding(multilinear::specs::Sums::where_set))]
-pub fn where_set<L: Level>(test: bool, x: L) -> L
+fn where_set<L: Level>(test: bool, x: L) -> L
     ensures { L.means result ≡ where_set test (L.means x) }
 {
     if test { x } else { L::zero() }
 }
 
-// The weight of slot entry i with successor tensors, from s(i) and s(i - 1).
-fn stepped_weight<L: Level>(stepping: Stepping<L>, here: L, before: L, i: usize) -> L
-    requires { stepping.rows < 64 }
-    ensures { L.means result ≡ plus (plus (L.means here) (where_set (not (starts stepping.rows i)) (L.arithmetic.times (L.means stepping.challenge) (L.means before)))) (where_set (ends stepping.rows i) (L.arithmetic.times (L.arithmetic.times (L.means stepping.challenge) (L.means stepping.challenge)) (L.means here))) }
+// s(i): the sum of the batching weights of the set coordinates of entry i of the slot's equality table.
+fn settled_weight<L: Level>(batch: &BitRingSwitchBatch<L>, i: usize) -> L
+    ensures { L.means result ≡ settled (rows_of L.Level batch.now) (slot_table L.arithmetic (opening_of L.Level batch.now.reduction)) i }
 {
-    let columns = Columns::new(stepping.rows);
-    let alpha = stepping.challenge;
+    let entry = equality_entry(batch.reduction.rest(), i);
+    subset_sum(batch.eq_batch, entry)
+}
+
+// What a challenge α adds to the weight of entry i, from s(i) and s(i - 1).
+fn carried_weight<L: Level>(columns: Columns, alpha: L, here: L, before: L, i: usize) -> L
+    ensures { L.means result ≡ carried_weight L.arithmetic columns.row_variables (L.means alpha) (L.means here) (L.means before) i }
+{
     let carried = where_set(!columns.starts(i), alpha.mul(before));
     let last = where_set(columns.ends(i), alpha.mul(alpha).mul(here));
     here.add(carried).add(last)
 }
 
-// How the tensors of an opening are batched: the slot's coordinates, the batching point, and what successor tensors add.
-pub struct Batching<'a, L> {
-    pub slot: &'a [L],
-    pub point: &'a [L],
-    pub stepping: Option<Stepping<L>>,
-    pub ghost few: { IfSome stepping (λ s. s.rows < 64) } by { Prim.hlevel props },
-}
-
-// By hand, since a generic struct with a ghost field derives no `Clone`.
-impl<L: Clone> Clone for Batching<'_, L> {
-    ghost is_clone = { λ x y. (y.slot ≡ x.slot) × ((y.point ≡ x.point) × ⟦<Option<Stepping<L>> as Clone>⟧.is_clone x.stepping y.stepping) };
-
-    ghost is_infallible = { λ x. ⟦<Option<Stepping<L>> as Clone>⟧.is_infallible x.stepping };
-
-    fn clone(&self) -> Result<Self, AllocError> {
-        Ok(Batching {
-            slot: self.slot,
-            point: self.point,
-            stepping: self.stepping.clone()?,
-        })
-    }
-}
-
-impl<L: Copy> Copy for Batching<'_, L> {}
-
-impl<'a, L: Level> Batching<'a, L> {
-    ghost use Rattle.plain.specs.Batches.{weights_of};
-
-    // s(i): the sum of the batching entries of the set coordinates of entry i of the slot's equality table.
-    fn settled_weight(&self, i: usize) -> L
-        requires { L.Level.log ≤ 7 }
-        ensures { L.means result ≡ settled L.arithmetic (equality L.arithmetic (map L.means self.now.point.now)) (map L.means self.now.slot.now) i }
-    {
-        subset_sum_of(
-            equality_entry(self.slot, i),
-            |u| equality_entry(self.point, u),
-        )
-    }
-
-    // The weight of slot entry i: s(i), and with successor tensors also α·s(i - 1) unless i starts a column, and α²·s(i) if i ends
-    // one.
-    pub fn weight(&self, i: usize) -> L
-        requires narrow { L.Level.log ≤ 7 }
-        ensures { L.means result ≡ weights_of L.arithmetic L.means self.now i }
-    {
-        let here = self.settled_weight(i);
-        match self.stepping {
-            None => here,
-            Some(stepping) => {
-                let before = self.settled_weight(i.saturating_sub(1));
-                stepped_weight(stepping, here, before, i)
-            }
+// The weight of entry i of the slot: s(i), and with a challenge α also α·s(i - 1) unless i starts a column, and α²·s(i) if i ends one.
+pub fn weight<L: Level>(batch: &BitRingSwitchBatch<L>, i: usize) -> L
+    ensures { L.means result ≡ weights_of L.Level batch.now i }
+{
+    let here = settled_weight(batch, i);
+    match batch.alpha {
+        None => here,
+        Some(alpha) => {
+            let before = settled_weight(batch, i.saturating_sub(1));
+            carried_weight(batch.reduction.columns(), alpha, here, before, i)
         }
     }
+}
 
-    // The sum over the slot of each packed element times its weight: the initial sum of the tensors of an opening with that slot.
-    pub fn slot_sum(&self, bits: &[u8], slot_start: usize) -> L
-        requires narrow { L.Level.log ≤ 7 }
-        requires short { length self.now.slot.now < 64 }
-        requires cells { (slot_start + 2 ^ length self.now.slot.now) * width L.Level.log ≤ 2 ^ 64 }
-        ensures weighted { L.means result ≡ sum (2 ^ length self.now.slot.now) (λ i. L.arithmetic.times (packed L.Level.log (cell bits.now) (slot_start + i)) (weights_of L.arithmetic L.means self.now i)) }
-        ensures initial { InitialSumOf L.arithmetic (equality L.arithmetic (map L.means self.now.point.now)) (cell bits.now) (map L.means self.now.slot.now) slot_start (steps L.means self.now.stepping) (L.means result) }
-    {
-        sum_of(
-            1 << self.slot.len(),
-            |i| -> L
-                requires narrow { L.Level.log ≤ 7 }
-                requires within { slot_start + i < 2 ^ 64 }
-                requires cells { (slot_start + i + 1) * width L.Level.log ≤ 2 ^ 64 }
-            { packed_element::<L>(bits, slot_start + i).mul(self.weight(i)) },
-        )
-    }
+// The packed elements of the slot, each times its weight, added up: the initial sum of the tensors of a table of bits.
+pub fn slot_sum<L: Level>(batch: &BitRingSwitchBatch<L>, bits: &[u8]) -> L
+    ensures weighted { L.means result ≡ weighted_sum L.Level batch.now (cell bits.now) }
+    ensures initial { L.means result ≡ initial_of L.Level batch.now (cell bits.now) }
+{
+    let start = batch.reduction.slot_start();
+    sum_of(
+        1 << batch.reduction.rest().len(),
+        |i| -> L
+            requires within { start + i < 2 ^ 64 }
+            requires cells { (start + i + 1) * width L.Level.log ≤ 2 ^ 64 }
+        { packed_element::<L>(bits, start + i).mul(weight(batch, i)) },
+    )
+}
 
-    // The closing value at a point z: the multilinear value there of the table of the slot's weights.
-    pub fn closing_value(&self, z: &[L]) -> L
-        requires narrow { L.Level.log ≤ 7 }
-        requires short { length z.now < 64 }
-        ensures value { L.means result ≡ multilinear L.arithmetic (weights_of L.arithmetic L.means self.now) (map L.means z.now) }
-        ensures closing { RowsWithin (steps L.means self.now.stepping) (length self.now.slot.now) → length z.now ≡ length self.now.slot.now → L.means result ≡ closing_value L.arithmetic (equality L.arithmetic (map L.means self.now.point.now)) (map L.means self.now.slot.now) (steps L.means self.now.stepping) (map L.means z.now) }
-    {
-        value_at(z, |i| self.weight(i))
-    }
+// The closing value at a point z: the multilinear value there of the table of the slot's weights.
+pub fn closing_value<L: Level>(batch: &BitRingSwitchBatch<L>, z: &[L]) -> L
+    requires { length z.now < 64 }
+    ensures { L.means result ≡ multilinear L.arithmetic (weights_of L.Level batch.now) (map L.means z.now) }
+{
+    value_at(z, |i| weight(batch, i))
 }

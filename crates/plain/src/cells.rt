@@ -15,7 +15,7 @@ fn bit(byte: u8, at: usize) -> u8
     (byte >> at) % 2
 }
 
-// Cell c of a table of bits: bit c mod 8, least first, of byte c div 8, and 0 past the end.
+// Cell c of a table of bits, which is bit c % 8 of its byte c / 8, and 0 past the end.
 pub fn cell(bits: &[u8], c: usize) -> u8
     ensures { result ≡ cell bits.now c }
 {
@@ -37,11 +37,11 @@ pub fn packed_element<L: Level>(bits: &[u8], w: usize) -> L
     from_coordinates(coordinates)
 }
 
-// The successor of cell c under a view that names q row variables: the next cell, or c itself at the last row of its column.
+// The successor of cell c, where each column holds the cells of its rows one after the other: the next cell, or c itself at the last row of
+// its column.
 #[tactic(auto, using(crate::proofs::Bits::next_fits, crate::proofs::Bits::successor_stays, crate::proofs::Bits::successor_steps))]
-pub fn successor_cell(q: usize, c: usize) -> usize
-    requires { q < 64 }
-    ensures { result ≡ successor q c }
+pub fn successor_cell(columns: Columns, c: usize) -> usize
+    ensures { result ≡ successor columns.row_variables c }
 {
-    if Columns::new(q).ends(c) { c } else { c + 1 }
+    if columns.ends(c) { c } else { c + 1 }
 }

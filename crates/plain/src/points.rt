@@ -1,6 +1,7 @@
-ghost use Rattle.std.specs.Prelude.{◌≡◌, true, false, map};
+ghost use Rattle.std.specs.Prelude.{◌≡◌, ℕ, ◌<◌, true, false, map, length};
 ghost use Rattle.level.specs.Element.{plus};
 ghost use Rattle.multilinear.specs.Equality.{equality};
+ghost use Rattle.multilinear.specs.Lent.{lent};
 
 use level::level::Level;
 
@@ -23,4 +24,13 @@ pub fn equality_entry<L: Level>(point: &[L], index: usize) -> L
         rest /= 2;
     }
     product
+}
+
+// Writes the first entries of that table, as many as a slice has room for.
+pub fn equality_entries<L: Level>(out: &mut [L], point: &[L])
+    ensures { (i : ℕ) → i < length out.old → lent L.means out.new i ≡ equality L.arithmetic (map L.means point.now) i }
+{
+    for (i, entry) in out.iter_mut().enumerate() {
+        *entry = equality_entry(point, i);
+    }
 }

@@ -1,13 +1,13 @@
-ghost use Rattle.std.specs.Prelude.{◌≡◌, ◌<◌, ◌≤◌, map, length};
-ghost use Rattle.multilinear.specs.Cells.{cell, standing, successor, one_row_on};
-ghost use Rattle.multilinear.specs.Equality.{equality, multilinear};
-ghost use Rattle.ring_switch.specs.Opening.{low};
-ghost use Rattle.ring_switch.specs.Claims.{incoming, successor_claim};
-ghost use Rattle.ring_switch.specs.ClaimLaws.{opened, opened_carry, opened_last};
+ghost use Rattle.std.specs.Prelude.{◌≡◌};
+ghost use Rattle.multilinear.specs.Cells.{cell, standing};
+ghost use Rattle.ring_switch.specs.ClaimLaws.{value, value_one_row_on};
+ghost use Rattle.opening.specs.Openings.{opening_of};
 
 use crate::cells::{cell, successor_cell};
 use crate::sums::value_at;
+use columns::Columns;
 use level::level::Level;
+use opening::bit_ring_switch::BitRingSwitch;
 
 // A bit standing for zero or one: a digit, as the definition reads a cell.
 #[tactic(auto, using(crate::proofs::Bits::standing_clear, crate::proofs::Bits::standing_set))]
@@ -17,21 +17,20 @@ fn standing<L: Level>(bit: u8) -> L
     if bit == 0 { L::zero() } else { L::one() }
 }
 
-// The multilinear value at a point of a table of bits: the incoming claim of the table's tensor.
-pub fn table_value<L: Level>(bits: &[u8], point: &[L]) -> L
-    requires { length point.now < 64 }
-    ensures value { L.means result ≡ multilinear L.arithmetic (λ c. standing L.arithmetic (cell bits.now c)) (map L.means point.now) }
-    ensures incoming { L.Level.log ≤ length point.now → L.means result ≡ incoming L.arithmetic (low (map L.means point.now)) (opened L.arithmetic (map L.means point.now) (cell bits.now)) }
+// The multilinear value of a table of bits at the point of an opening.
+pub fn table_value<L: Level>(bits: &[u8], reduction: &BitRingSwitch<L>) -> L
+    ensures { L.means result ≡ value L.arithmetic (opening_of L.Level reduction.now) (cell bits.now) }
 {
-    value_at(point, |c| standing(cell(bits, c)))
+    value_at(reduction.point, |c| standing(cell(bits, c)))
 }
 
-// The multilinear value at a point of a table of bits one row on, under a view that names q row variables: the successor claim of
-// the table's tensor, carry and last.
-pub fn successor_value<L: Level>(bits: &[u8], point: &[L], q: usize) -> L
-    requires { (length point.now < 64) × (q < 64) }
-    ensures value { L.means result ≡ multilinear L.arithmetic (λ c. standing L.arithmetic (one_row_on q (cell bits.now) c)) (map L.means point.now) }
-    ensures claim { L.Level.log ≤ length point.now → q ≤ length point.now → L.means result ≡ successor_claim L.arithmetic (low (map L.means point.now)) q (opened L.arithmetic (map L.means point.now) (cell bits.now)) (opened_carry L.arithmetic (map L.means point.now) q (cell bits.now)) (opened_last L.arithmetic (map L.means point.now) q (cell bits.now)) }
+// That of the bits one row on, under the view of the opening: without one a row is a single bit, and the bits stay as they are.
+pub fn successor_value<L: Level>(bits: &[u8], reduction: &BitRingSwitch<L>) -> L
+    ensures { L.means result ≡ value_one_row_on L.arithmetic (opening_of L.Level reduction.now) (cell bits.now) }
 {
-    value_at(point, |c| standing(cell(bits, successor_cell(q, c))))
+    let rows = Columns::new(reduction.view.unwrap_or(0));
+    value_at(
+        reduction.point,
+        |c| standing(cell(bits, successor_cell(rows, c))),
+    )
 }
