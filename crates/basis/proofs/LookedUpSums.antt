@@ -9,13 +9,14 @@ use Rattle.multilinear.proofs.Sums.{sum_same}
 use Rattle.tensor_algebra.specs.Tensor.{subset_sum}
 use Rattle.tensor_algebra.specs.Subsets.{basis, byte}
 use Rattle.tensor_algebra.proofs.SubsetSums.{subset_bytes, subset_times}
-use Rattle.basis.specs.Tables.{Tabulated, looked_up, scaled}
+use Rattle.basis.specs.Tables.{Tabulated, looked_up, scaled_weights}
 use Rattle.basis.proofs.CompletedTables.{byte_same}
 
 module _ {k : ℕ} where
-  pub tabulated_sum : (f tables : ℕ → Element k) → Tabulated f tables → (x : Element k) → looked_up tables x ≡ subset_sum f x
+  -- tables of the sums of the weights f
+  pub looked_up_sums : (f tables : ℕ → Element k) → Tabulated f tables → (x : Element k) → looked_up tables x ≡ subset_sum f x
   unfolding looked_up
-  tabulated_sum f tables t x = sum_same (num_bytes k) _ _ (λ j h. t.entry j (byte x j) h (omega arith)) ∙ sym (subset_bytes f x)
+  looked_up_sums f tables t x = sum_same (num_bytes k) _ _ (λ j h. t.entry j (byte x j) h (omega arith)) ∙ sym (subset_bytes f x)
 
   -- a loop that looks up the bytes one by one
   module _ (tables : ℕ → Element k) (bytes : List ℕ) where
@@ -43,12 +44,20 @@ module _ {k : ℕ} where
         ap (λ b. tables (256 * j + b))
         (ap (λ bs. get_or bs j 0) front ∙ get_or-take m all j 0 (omega arith) ∙ ap (λ bs. get_or bs j 0) shown ∙ digit_at 16 x.number j (omega arith)))
 
-  -- tables whose weights are what other tables give for each scaled basis element
-  module _ {A : Arithmetic k} (laws : Laws A) (f sums tables : ℕ → Element k) (a : Element k) where
-    pub scaled_weights : Tabulated f sums → Tabulated (λ u. looked_up sums (A.times a (basis k u))) tables → Tabulated (scaled A f a) tables
-    scaled_weights t s = record {
-      entry = λ j r h l. s.entry j r h l ∙ byte_same _ (scaled A f a) j r (λ b _. tabulated_sum f sums t (A.times a (basis k (8 * j + b))));
+  -- the weights f once the element is scaled by a: what they sum to at each scaled basis element
+  abbrev pub scaled : Arithmetic k → (ℕ → Element k) → Element k → ℕ → Element k
+  scaled A f a u = subset_sum f (A.times a (basis k u))
+
+  -- tables made of what tables of the sums of f give for each scaled basis element: they hold the sums of f that are taken once the element is
+  -- scaled
+  module _ (A : Arithmetic k) (f sums tables : ℕ → Element k) (a : Element k) (held : Tabulated f sums) (made : Tabulated (scaled_weights A sums a) tables) where
+    pub scaled_tabulated : Tabulated (scaled A f a) tables
+    scaled_tabulated = record {
+      entry = λ j r h l. made.entry j r h l ∙ byte_same _ (scaled A f a) j r (λ b _. looked_up_sums f sums held (A.times a (basis k (8 * j + b))));
     }
 
-    pub scaled_sums : Tabulated f sums → Tabulated (scaled A f a) tables → (x : Element k) → looked_up tables x ≡ looked_up sums (A.times a x)
-    scaled_sums t s x = tabulated_sum (scaled A f a) tables s x ∙ sym (subset_times f laws a x) ∙ sym (tabulated_sum f sums t (A.times a x))
+    pub scaled_subset_sum : Laws A → (x : Element k) → looked_up tables x ≡ subset_sum f (A.times a x)
+    scaled_subset_sum laws x = looked_up_sums (scaled A f a) tables scaled_tabulated x ∙ sym (subset_times f laws a x)
+
+    pub scaled_looked_up : Laws A → (x : Element k) → looked_up tables x ≡ looked_up sums (A.times a x)
+    scaled_looked_up laws x = scaled_subset_sum laws x ∙ sym (looked_up_sums f sums held (A.times a x))

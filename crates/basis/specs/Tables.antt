@@ -1,10 +1,9 @@
 -- Tables of the sums of weights over every subset of the eight coordinates in a byte, one table for each byte of an element.
-use Rattle.std.specs.Prelude.{◌≡◌, ℕ, ◌+◌, ◌*◌, ◌/◌, ◌%◌, ◌^◌, ◌<◌, ◌≤◌, max}
+use Rattle.std.specs.Prelude.{◌≡◌, ℕ, ◌+◌, ◌*◌, ◌/◌, ◌%◌, ◌^◌, ◌<◌, ◌≤◌}
 use Rattle.level.specs.Element.{Element}
 use Rattle.level.specs.Bytes.{num_bytes}
 use Rattle.level.specs.Laws.{Arithmetic}
 use Rattle.multilinear.specs.Sums.{sum}
-use Rattle.tensor_algebra.specs.Tensor.{subset_sum}
 use Rattle.tensor_algebra.specs.Subsets.{basis, byte, byte_sum}
 
 -- the sums of the weights f: at place 256j + s, the sum for the byte s at byte position j
@@ -29,6 +28,6 @@ pub record Completed {k : ℕ} (old new : ℕ → Element k) (j : ℕ) : Type 0 
 unfoldable pub looked_up : {k : ℕ} → (ℕ → Element k) → Element k → Element k
 looked_up {k} tables x = sum (num_bytes k) (λ j. tables (256 * j + byte x j))
 
--- the weights f once the element is scaled by a: what they sum to at each scaled basis element
-abbrev pub scaled : {k : ℕ} → Arithmetic k → (ℕ → Element k) → Element k → ℕ → Element k
-scaled {k} A f a u = subset_sum f (A.times a (basis k u))
+-- what tables give for each basis element scaled by a
+abbrev pub scaled_weights : {k : ℕ} → Arithmetic k → (ℕ → Element k) → Element k → ℕ → Element k
+scaled_weights {k} A tables a u = looked_up tables (A.times a (basis k u))

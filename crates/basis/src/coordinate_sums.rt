@@ -1,10 +1,8 @@
 ghost use Rattle.std.specs.Prelude.{◌≡◌, ℕ, ◌+◌, ◌-◌, ◌*◌, ◌^◌, ◌<◌, ◌≤◌, length, bit_and};
 ghost use Rattle.std.specs.Int.Count.{count_trailing_zeros};
-ghost use Rattle.level.specs.Element.{Element, plus};
+ghost use Rattle.level.specs.Element.{plus};
 ghost use Rattle.multilinear.specs.Lent.{lent};
-ghost use Rattle.tensor_algebra.specs.Tensor.{subset_sum};
-ghost use Rattle.tensor_algebra.specs.Subsets.{basis};
-ghost use Rattle.basis.specs.Tables.{lone, held, Completed, Tabulated, looked_up, scaled};
+ghost use Rattle.basis.specs.Tables.{lone, held, Completed, Tabulated, looked_up, scaled_weights};
 ghost use Rattle.level.specs.Bytes.{num_bytes};
 
 use coordinates::per_coordinate::PerCoordinate;
@@ -79,8 +77,7 @@ fn weight_at<L: Level>(weights: &[L], coordinate: usize) -> L
 
 // Tabulates the subset sums of one weight for each coordinate.
 pub fn tabulate<L: Level>(tables: &mut [L], weights: PerCoordinate<L>)
-    requires narrow { L.Level.log ≤ 7 }
-    requires sized { length tables.old ≡ 256 * num_bytes L.Level.log }
+    requires { length tables.old ≡ 256 * num_bytes L.Level.log }
     ensures { Tabulated (lent L.means weights.entry.elements.now) (lent L.means tables.new) }
 {
     // Numbers, since a byte has eight coordinates also where the weights are fewer.
@@ -90,27 +87,27 @@ pub fn tabulate<L: Level>(tables: &mut [L], weights: PerCoordinate<L>)
     complete(tables);
 }
 
-// The sums of one weight for each coordinate that an element has set, in lent tables. How long the tables are stands at each method,
-// since `new` takes tables of any length.
+// Sums of one weight for each coordinate that an element has set, looked up in lent tables: 256 entries for each of its bytes.
 #[derive(Drop)]
-pub struct CoordinateSums<'a, L> {
+pub struct CoordinateSums<'a, L: Level> {
     tables: &'a [L],
+    ghost sized: { length tables.now ≡ 256 * num_bytes L.Level.log },
+    ghost narrow: { L.Level.log ≤ 7 },
 }
 
 impl<'a, L: Level> CoordinateSums<'a, L> {
     // The sums that the tables hold.
     pub fn new(tables: &'a [L]) -> CoordinateSums<'a, L>
+        requires narrow { L.Level.log ≤ 7 }
+        requires sized { length tables.now ≡ 256 * num_bytes L.Level.log }
         ensures { result.tables.now ≡ tables.now }
     {
         CoordinateSums { tables }
     }
 
-    // The sum of the weights over the coordinates that the value has set: one entry for each of its bytes.
+    // The sum over the coordinates that the value has set: one entry for each of its bytes.
     pub fn sum(&self, value: L) -> L
-        requires narrow { L.Level.log ≤ 7 }
-        requires sized { length self.now.tables.now ≡ 256 * num_bytes L.Level.log }
-        ensures entries { L.means result ≡ looked_up (lent L.means self.now.tables.now) (L.means value) }
-        ensures weights { (f : ℕ → Element L.Level.log) → Tabulated f (lent L.means self.now.tables.now) → L.means result ≡ subset_sum f (L.means value) }
+        ensures { L.means result ≡ looked_up (lent L.means self.now.tables.now) (L.means value) }
     {
         let bytes = value.to_bytes();
         let tables = self.tables.chunks_exact(256);
@@ -123,11 +120,8 @@ impl<'a, L: Level> CoordinateSums<'a, L> {
 
     // Writes the sum for each element of the input.
     pub fn apply_into(&self, input: &[L], output: &mut [L])
-        requires narrow { L.Level.log ≤ 7 }
-        requires sized { length self.now.tables.now ≡ 256 * num_bytes L.Level.log }
-        requires equal { length output.old ≡ length input.now }
-        ensures entries { (i : ℕ) → i < length input.now → lent L.means output.new i ≡ looked_up (lent L.means self.now.tables.now) (lent L.means input.now i) }
-        ensures weights { (f : ℕ → Element L.Level.log) → Tabulated f (lent L.means self.now.tables.now) → (i : ℕ) → i < length input.now → lent L.means output.new i ≡ subset_sum f (lent L.means input.now i) }
+        requires { length output.old ≡ length input.now }
+        ensures { (i : ℕ) → i < length input.now → lent L.means output.new i ≡ looked_up (lent L.means self.now.tables.now) (lent L.means input.now i) }
     {
         // An index into the output, since of what is written through a zip with `iter_mut` a proof knows only the length.
         for (i, value) in input.iter().enumerate() {
@@ -137,22 +131,18 @@ impl<'a, L: Level> CoordinateSums<'a, L> {
 
     // The sum for a scaled basis element.
     fn scaled_weight(&self, scale: L, coordinate: usize) -> L
-        requires narrow { L.Level.log ≤ 7 }
-        requires sized { length self.now.tables.now ≡ 256 * num_bytes L.Level.log }
-        requires coordinate { coordinate < 128 }
-        ensures { L.means result ≡ looked_up (lent L.means self.now.tables.now) (L.arithmetic.times (L.means scale) (basis L.Level.log coordinate)) }
+        requires { coordinate < 128 }
+        ensures { L.means result ≡ scaled_weights L.arithmetic (lent L.means self.now.tables.now) (L.means scale) coordinate }
     {
         self.sum(scale.mul(basis(coordinate)))
     }
 }
 
-// Tabulates into `out` the sums that are taken once the value is scaled.
+// Tabulates into `out` the sums of what the source gives for each scaled basis element: where the source holds sums of weights, those that are
+// taken once the value is scaled.
 pub fn scaled_sums_into<L: Level>(out: &mut [L], sums: &CoordinateSums<'_, L>, scale: L)
-    requires narrow { L.Level.log ≤ 7 }
-    requires sized { length out.old ≡ 256 * num_bytes L.Level.log }
-    requires source { length sums.now.tables.now ≡ 256 * num_bytes L.Level.log }
-    ensures weights { (f : ℕ → Element L.Level.log) → Tabulated f (lent L.means sums.now.tables.now) → Tabulated (scaled L.arithmetic f (L.means scale)) (lent L.means out.new) }
-    ensures entries { (f : ℕ → Element L.Level.log) → Tabulated f (lent L.means sums.now.tables.now) → (x : Element L.Level.log) → looked_up (lent L.means out.new) x ≡ looked_up (lent L.means sums.now.tables.now) (L.arithmetic.times (L.means scale) x) }
+    requires { length out.old ≡ 256 * num_bytes L.Level.log }
+    ensures { Tabulated (scaled_weights L.arithmetic (lent L.means sums.now.tables.now) (L.means scale)) (lent L.means out.new) }
 {
     // Numbers, since each coordinate is scaled and no list holds them.
     for coordinate in 0..8 * num_bytes::<L>() {

@@ -3,8 +3,7 @@ use Rattle.std.specs.Iterator.Adapters.{zip_second}
 use Rattle.std.specs.Slice.Iter.{iter_rest}
 use Rattle.std.proofs.lemmas.List.{length_push}
 use Rattle.multilinear.specs.Lent.{lent}
-use Rattle.basis.specs.Tables.{looked_up}
-use Rattle.basis.proofs.LookedUpSums.{looked_none, looked_more, looked_all, looked_below, tabulated_sum}
+use Rattle.basis.proofs.LookedUpSums.{looked_none, looked_more, looked_all, looked_below}
 use Rattle.basis.proofs.LookedUpChunks.{table_within, tables_left, table_read, byte_within, bytes_left, byte_read, all_tables}
 use Rattle.basis.proofs.coordinate_sums.CoordinateSums.sum.Goals as goal
 
@@ -49,6 +48,7 @@ loop-table-preserved g c =
 pub returns : goal.returns
 returns g c =
     let m = g.L.Level in
+    let sums = c.args.self.now in
     let it = c.loop-table.invariant in
     let tables = c.args.self.now.tables.now in
     let bytes = iter_rest (zip_second c.into_iter-table-iterator.result) in
@@ -57,8 +57,6 @@ returns g c =
     let count = c.num_bytes.result in
     let second : iter_rest (zip_second c.zip-table-items.result) ≡ take count all = c.zip-table-items.ensures.second.0 in
     let front = ap (λ i. iter_rest (zip_second i)) c.into_iter-table-iterator.ensures.into_iter_gives ∙ second in
-    let past = all_tables tables all bytes (m.means c.args.value) count n c.requires.narrow c.requires.sized c.num_bytes.ensures c.to_bytes-bytes.ensures front it.within it.short
+    let past = all_tables tables all bytes (m.means c.args.value) count n sums.narrow sums.sized c.num_bytes.ensures c.to_bytes-bytes.ensures front it.within it.short
     (⊎_elim (λ e. inl (omega (arith, e.1.1.0, ap length it.unread, it.size))) (λ e. inr (sym (ap length it.left) ∙ e.1.0)) c.in-None.ensures.steps) in
-    let entries : m.means c.loop-table.sum ≡ looked_up (lent m.means tables) (m.means c.args.value) =
-    looked_all (lent m.means tables) bytes all (m.means c.args.value) _ count n c.requires.narrow c.num_bytes.ensures c.to_bytes-bytes.ensures front it.short past it.sum in
-    record { entries = entries; weights = λ f t. entries ∙ tabulated_sum f (lent m.means tables) t (m.means c.args.value) }
+    looked_all (lent m.means tables) bytes all (m.means c.args.value) _ count n sums.narrow c.num_bytes.ensures c.to_bytes-bytes.ensures front it.short past it.sum
