@@ -1,2 +1,3 @@
 pub mod Weighing
-pub mod RowWeights
+pub mod ColumnWeights
+pub mod Opened

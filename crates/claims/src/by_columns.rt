@@ -6,8 +6,7 @@ ghost use Rattle.tensor_algebra.specs.Tensor.{nothing, by_columns};
 
 use coordinates::per_coordinate::PerCoordinate;
 use level::level::Level;
-use tensor_rows::columns::columns;
-use tensor_rows::rows::clear;
+use tensor::rows::clear;
 
 // The sum of columns, column v times weight v: the columns with their index, as a claim is defined. It is no `batch_rows`, which is the
 // same sum of rows, since the claim is to be this loop.
@@ -22,19 +21,17 @@ fn weighed<L: Level>(columns: PerCoordinate<L>, weights: PerCoordinate<L>) -> L
     sum
 }
 
-// The sum of a tensor's columns, column v times weight v. The columns are gathered into the scratch and read there; the `by_columns` of
-// tensor_rows, which has no scratch, reads the rows.
+// The sum of a tensor's columns, column v times weight v. The columns are gathered into the scratch, d elements, which is left zero.
 pub(crate) fn by_columns<L: Level>(
     tensor: PerCoordinate<L>,
     weights: PerCoordinate<L>,
     scratch: &mut [L],
 ) -> L
-    requires narrow { L.Level.log ≤ 7 }
-    requires scratch { length scratch.old ≡ width L.Level.log }
+    requires { length scratch.old ≡ width L.Level.log }
     ensures value { L.means result ≡ by_columns L.arithmetic (lent L.means weights.entry.elements.now) (lent L.means tensor.entry.elements.now) }
     ensures scratch { lent L.means scratch.new ≡ nothing }
 {
-    columns(tensor, scratch);
+    tensor.columns(scratch);
     let sum = weighed(PerCoordinate { elements: scratch }, weights);
     clear(scratch);
     sum

@@ -1,5 +1,5 @@
 use Rattle.std.proofs.Common.{arith, rules}
-use Rattle.tensor_rows.proofs.Turns.{batched_none, batched_more}
+use Rattle.coordinates.proofs.Batched.{batched_none, batched_more}
 use Rattle.claims.proofs.Weighing.{weighed_all}
 use Rattle.claims.proofs.by_columns.weighed.Goals as goal
 

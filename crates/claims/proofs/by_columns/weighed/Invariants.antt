@@ -1,5 +1,5 @@
 use Rattle.std.proofs.Common.{◌≡◌}
-use Rattle.tensor_rows.proofs.Turns.{batched}
+use Rattle.coordinates.proofs.Batched.{batched}
 use Rattle.claims.proofs.by_columns.weighed.Given as goal
 
 abbrev pub invariant-loop-v : goal.invariant-loop-v

@@ -3,7 +3,7 @@ use Rattle.level.specs.Element.{plus}
 use Rattle.multilinear.specs.Lent.{lent}
 use Rattle.multilinear.proofs.Lent.{lent_read, lent_written, lent_kept}
 use Rattle.multilinear.specs.Columns.{starts, ends}
-use Rattle.claims.proofs.RowWeights.{row_weighed}
+use Rattle.claims.proofs.ColumnWeights.{row_weighed}
 use Rattle.claims.proofs.successor.successor_low_weights.Goals as goal
 
 pub loop-v-preserved : goal.loop-v-preserved
