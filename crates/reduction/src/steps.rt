@@ -1,10 +1,16 @@
 ghost use Rattle.std.specs.Prelude.{◌≡◌, ◌≤◌, length, take};
+ghost use Rattle.level.specs.Element.{width};
+ghost use Rattle.ring_switch.specs.Opening.{low};
+ghost use Rattle.equality.specs.Tables.{Tabulated};
 ghost use Rattle.opening.specs.Openings.{opening_of};
-ghost use Rattle.reduction.specs.Layout.{point_start, layout_end};
+ghost use Rattle.reduction.specs.Layout.{part, point_start, low_start, layout_end};
 ghost use Rattle.reduction.specs.Stretch.{Stands, point_in, opening_in};
 
 use crate::layout::Layout;
 use crate::opened::Opened;
+use crate::over::low_table;
+use crate::parts::point_in as point_of;
+use coordinates::width;
 use level::level::Level;
 use opening::bit_ring_switch::BitRingSwitch;
 
@@ -30,4 +36,16 @@ pub fn open<L: Level>(
         view: reduction.view,
         prefix: reduction.prefix,
     }
+}
+
+// Writes the equality table of the coordinates that a packed element absorbs.
+fn work_low<L: Level>(memory: &mut [L], layout: Layout<L>, opened: Opened)
+    requires room { layout_end L.Level.log layout.variables ≤ length memory.old }
+    requires stands { Stands L.Level layout.variables opened memory.old }
+    ensures before { take (low_start L.Level.log layout.variables) memory.new ≡ take (low_start L.Level.log layout.variables) memory.old }
+    ensures low { Tabulated L.means L.arithmetic L.arithmetic.unit (low (opening_in L.Level layout.variables opened memory.old)) (part (low_start L.Level.log layout.variables) (width L.Level.log) memory.new) }
+{
+    let (held, rest) = memory.split_at_mut(layout.low_start());
+    let (table, _) = rest.split_at_mut(width::<L>());
+    low_table(point_of(held, layout, opened.variables), opened, table);
 }
