@@ -4,9 +4,9 @@ ghost use Rattle.multilinear.specs.Lent.{lent};
 ghost use Rattle.multilinear.specs.Sums.{sum as sum_of};
 ghost use Rattle.tensor_algebra.specs.Tensor.{nothing, by_columns};
 
+use coordinates::clear;
 use coordinates::per_coordinate::PerCoordinate;
 use level::level::Level;
-use tensor::rows::clear;
 
 // The sum of columns, column v times weight v: the columns with their index, as a claim is defined. It is no `batch_rows`, which is the
 // same sum of rows, since the claim is to be this loop.

@@ -9,9 +9,9 @@ ghost use Rattle.claims.specs.Rippled.{rippled};
 
 use crate::by_columns::by_columns;
 use columns::Columns;
+use coordinates::clear;
 use coordinates::per_coordinate::PerCoordinate;
 use level::level::Level;
-use tensor::rows::clear;
 use tensor::successor_tensors::SuccessorTensors;
 
 // x where the test holds, else zero.

@@ -5,6 +5,8 @@
 ghost use Rattle.std.specs.Prelude.{◌≡◌, ◌+◌, ◌*◌, ◌/◌, ◌%◌, ◌^◌, ◌<◌, ◌≤◌};
 ghost use Rattle.level.specs.Element.{width, cut};
 ghost use Rattle.level.specs.Bytes.{num_bytes};
+ghost use Rattle.multilinear.specs.Lent.{lent};
+ghost use Rattle.tensor_algebra.specs.Tensor.{nothing};
 ghost use Rattle.tensor_algebra.specs.Subsets.{basis};
 
 use level::level::Level;
@@ -68,4 +70,12 @@ pub fn with_coordinate(coordinates: u128, u: usize, bit: u128) -> u128
     ensures { result ≡ coordinates + bit * 2 ^ u }
 {
     coordinates | (bit << u)
+}
+
+// Sets every element to zero. It is no `fill`, which asks that a clone cannot fail, and `Copy` does not say so. A closure around `L::zero`,
+// since a function of a type parameter that is handed over by name is refused.
+pub fn clear<L: Level>(elements: &mut [L])
+    ensures { lent L.means elements.new ≡ nothing }
+{
+    elements.fill_with(|| L::zero());
 }

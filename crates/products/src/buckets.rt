@@ -7,8 +7,8 @@ ghost use Rattle.products.specs.Halves.{of_byte, RowsOf, AllHalved};
 
 use crate::gathering::{add_term, add_terms};
 use crate::reading::read_rows;
+use coordinates::clear;
 use level::level::Level;
-use tensor::rows::clear;
 
 // A sum of exterior products, one bucket for each value of each byte of the left factors.
 //

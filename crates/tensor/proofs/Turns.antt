@@ -2,7 +2,6 @@
 use Rattle.std.proofs.Common.{◌≡◌, ℕ, zero, suc, ◌+◌, ◌-◌, ◌*◌, ◌/◌, ◌%◌, ◌^◌, ◌<◌, ◌≤◌, min, List, [], ◌∷◌, length, get_or, take, drop, length-take-le, length-drop, set, sym, ap, ◌∙◌, ap₂, ⊎_elim, arith, pow_mono}
 use borrow.Rule.Slice.PartMut.{put_mid}
 use mathlib.Core.Path.{fun_ext}
-use Rattle.std.specs.List.{FoldsTo}
 use Rattle.std.proofs.lemmas.Bool.{cases_lt}
 use Rattle.coordinates.specs.SetPlaces.{NextSet}
 use Rattle.level.specs.Bytes.{sixteen, num_bytes}
@@ -37,18 +36,6 @@ byte_fits (suc (suc (suc k))) j h l =
     (omega arith, omega arith)
 
 module _ {X : Type 0} {k : ℕ} (means : X → Element k) where
-  -- rows that were each made zero
-  filled_at : {F : Type 0} (step : F → X → F → Type 0) → ((p q : F) (x : X) → step p x q → means x ≡ zeros k)
-      → (p q : F) (xs : List X) → FoldsTo step p xs q → (i : ℕ) → lent means xs i ≡ zeros k
-  filled_at step each p q [] f i = lent_past means [] i (omega arith)
-  filled_at step each p q (x ∷ xs) f zero = each p f.0 x f.1
-  filled_at step each p q (x ∷ xs) f (suc i) = filled_at step each f.0 q xs f.2 i
-
-  pub filled_nothing : {F : Type 0} (step : F → X → F → Type 0) → ((p q : F) (x : X) → step p x q → means x ≡ zeros k)
-      → (p q : F) (xs : List X) → FoldsTo step p xs q → lent means xs ≡ nothing
-  unfolding nothing
-  filled_nothing step each p q xs f = fun_ext (filled_at step each p q xs f)
-
   -- rows added, row by row
   pub added_more : (ys xs zs : List X) (i : ℕ) (d y z : X) → i < length zs → i < length ys → y ≡ get_or ys i y
       → means z ≡ plus (means (get_or zs i d)) (means y)

@@ -4,9 +4,9 @@ ghost use Rattle.multilinear.specs.Lent.{lent};
 ghost use Rattle.tensor_algebra.specs.Subsets.{basis};
 ghost use Rattle.tensor_algebra.specs.Tensor.{nothing, one, exterior, add, column, scale_rows, scale_columns, equality_factor, batch_rows};
 
-use crate::rows::{self, add_where_set};
+use crate::rows::add_where_set;
 use coordinates::per_coordinate::PerCoordinate;
-use coordinates::{basis, num_bytes, width};
+use coordinates::{basis, clear, num_bytes, width};
 use level::level::Level;
 
 // One plus x.
@@ -30,7 +30,7 @@ impl<'a, L: Level> BitTensor<'a, L> {
         ensures same { self.new.rows.ghost_name ≡ self.old.rows.ghost_name }
         ensures rows { lent L.means self.new.rows.now ≡ nothing }
     {
-        rows::clear(self.rows);
+        clear(self.rows);
     }
 
     // Adds a ⊗ b: b to each row whose coordinate of a is set, a byte of coordinates at a time.

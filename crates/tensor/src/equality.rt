@@ -4,7 +4,7 @@ ghost use Rattle.multilinear.specs.Lent.{lent};
 ghost use Rattle.tensor_algebra.specs.Tensor.{nothing, equality_factors, equality_element};
 
 use crate::bit_tensor::BitTensor;
-use crate::rows::clear;
+use coordinates::clear;
 use level::level::Level;
 
 impl<'a, L: Level> BitTensor<'a, L> {

@@ -5,6 +5,6 @@
 
 pub mod bit_tensor;
 mod equality;
-pub mod rows;
+mod rows;
 mod successor;
 pub mod successor_tensors;

@@ -2,18 +2,9 @@ ghost use Rattle.std.specs.Prelude.{◌≡◌, ℕ, ◌/◌, ◌%◌, ◌^◌, �
 ghost use Rattle.level.specs.Element.{plus};
 ghost use Rattle.multilinear.specs.Lent.{lent};
 ghost use Rattle.multilinear.specs.Sums.{at_bit};
-ghost use Rattle.tensor_algebra.specs.Tensor.{nothing};
 
 use coordinates::coefficients::next_set;
 use level::level::Level;
-
-// Sets every row to zero. It is no `fill`, which asks that a clone cannot fail, and `Copy` does not say so. A closure around `L::zero`, since
-// a function of a type parameter that is handed over by name is refused.
-pub fn clear<L: Level>(rows: &mut [L])
-    ensures { lent L.means rows.new ≡ nothing }
-{
-    rows.fill_with(|| L::zero());
-}
 
 // Adds b to each row whose coordinate is set, the byte's lowest coordinate that of the first row.
 pub(crate) fn add_where_set<L: Level>(rows: &mut [L], coordinates: u8, b: L)

@@ -5,7 +5,7 @@ ghost use Rattle.tensor_algebra.specs.Tensor.{nothing, successor_element};
 ghost use Rattle.tensor.specs.Steps.{stepped};
 
 use crate::bit_tensor::{BitTensor, one_plus};
-use crate::rows::clear;
+use coordinates::clear;
 use level::level::Level;
 
 // The carry of the coordinates passed so far, an exterior product: its two legs.
