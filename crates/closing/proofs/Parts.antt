@@ -7,7 +7,7 @@ use Rattle.level.specs.Laws.{Arithmetic}
 use Rattle.tensor_algebra.specs.Tensor.{Tensor, nothing, exterior, add, product, successor_element, equality_factors}
 use Rattle.ring_switch.specs.Batching.{carry_element, last_element}
 use Rattle.tensor.proofs.Folds.{left, none_left}
-use Rattle.tensor_rows.proofs.Tensors.{nothing_add}
+use Rattle.tensor.proofs.Tensors.{nothing_add}
 
 module _ {X : Type 0} {k : ℕ} (means : X → Element k) (A : Arithmetic k) where
   -- the product of the coordinates from i on

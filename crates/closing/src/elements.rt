@@ -1,7 +1,7 @@
 ghost use Rattle.std.specs.Prelude.{◌≡◌, ◌-◌, ◌≤◌, map, length, take, drop};
 ghost use Rattle.level.specs.Element.{width};
 ghost use Rattle.multilinear.specs.Lent.{lent};
-ghost use Rattle.tensor_algebra.specs.Tensor.{nothing, exterior, add, product, successor_element, equality_factors};
+ghost use Rattle.tensor_algebra.specs.Tensor.{nothing, product};
 ghost use Rattle.ring_switch.specs.Batching.{carry_element, last_element};
 
 use level::level::Level;
@@ -29,52 +29,8 @@ fn rows_apart<L: Level>(point: &[L], r: usize) -> (&[L], &[L])
     point.split_at(point.len() - r)
 }
 
-// Makes the rows those of the successor element of row coordinates, under the equality factors of the coordinates before them.
-fn successor_factored<L: Level>(
-    rows: &mut [L],
-    selector: &[L],
-    z_selector: &[L],
-    rho: &[L],
-    z_rows: &[L],
-    scratch: &mut [L],
-)
-    requires narrow { L.Level.log ≤ 7 }
-    requires rows { length rows.old ≡ width L.Level.log }
-    requires before { length z_selector.now ≡ length selector.now }
-    requires points { length z_rows.now ≡ length rho.now }
-    requires scratch { length scratch.old ≡ width L.Level.log }
-    ensures rows { lent L.means rows.new ≡ equality_factors L.arithmetic (map L.means selector.now) (map L.means z_selector.now) (successor_element L.arithmetic (map L.means rho.now) (map L.means z_rows.now)) }
-    ensures scratch { lent L.means scratch.new ≡ nothing }
-{
-    let mut carry = BitTensor { rows };
-    carry.successor_element(rho, z_rows, scratch);
-    carry.mul_equality_factors(selector, z_selector, scratch);
-}
-
-// Makes the rows those of a ⊗ b, under the equality factors of coordinates.
-fn exterior_factored<L: Level>(
-    rows: &mut [L],
-    selector: &[L],
-    z_selector: &[L],
-    a: L,
-    b: L,
-    scratch: &mut [L],
-)
-    requires narrow { L.Level.log ≤ 7 }
-    requires rows { length rows.old ≡ width L.Level.log }
-    requires before { length z_selector.now ≡ length selector.now }
-    requires scratch { length scratch.old ≡ width L.Level.log }
-    ensures rows { lent L.means rows.new ≡ equality_factors L.arithmetic (map L.means selector.now) (map L.means z_selector.now) (add nothing (exterior (L.means a) (L.means b))) }
-    ensures scratch { lent L.means scratch.new ≡ nothing }
-{
-    let mut last = BitTensor { rows };
-    last.clear();
-    last.add_exterior_product(a, b);
-    last.mul_equality_factors(selector, z_selector, scratch);
-}
-
 // Makes the rows those of the carry element of a slot and a closing point: the successor element of their last r coordinates under
-// the equality factors of the others. A function over slices, as `last_element` is, and no method of a slot's batching: no weights are asked.
+// the equality factors of the others. A function over slices, as `last_element` is: no weights and no view are asked.
 pub fn carry_element<L: Level>(rows: &mut [L], r: usize, slot: &[L], z: &[L], scratch: &mut [L])
     requires narrow { L.Level.log ≤ 7 }
     requires rows { length rows.old ≡ width L.Level.log }
@@ -86,7 +42,9 @@ pub fn carry_element<L: Level>(rows: &mut [L], r: usize, slot: &[L], z: &[L], sc
 {
     let (selector, rho) = rows_apart(slot, r);
     let (z_selector, z_rows) = rows_apart(z, r);
-    successor_factored(rows, selector, z_selector, rho, z_rows, scratch);
+    let mut carry = BitTensor { rows };
+    carry.successor_element(rho, z_rows, scratch);
+    carry.mul_equality_factors(selector, z_selector, scratch);
 }
 
 // Makes the rows those of the last element of a slot and a closing point: the products of their last r coordinates, one on each leg,
@@ -102,12 +60,8 @@ pub fn last_element<L: Level>(rows: &mut [L], r: usize, slot: &[L], z: &[L], scr
 {
     let (selector, rho) = rows_apart(slot, r);
     let (z_selector, z_rows) = rows_apart(z, r);
-    exterior_factored(
-        rows,
-        selector,
-        z_selector,
-        product(rho),
-        product(z_rows),
-        scratch,
-    );
+    let mut last = BitTensor { rows };
+    last.clear();
+    last.add_exterior_product(product(rho), product(z_rows));
+    last.mul_equality_factors(selector, z_selector, scratch);
 }

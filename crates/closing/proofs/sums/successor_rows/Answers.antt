@@ -1,6 +1,6 @@
 use Rattle.std.proofs.Common.{◌∙◌, ap}
 use Rattle.level.specs.Element.{plus}
-use Rattle.tensor_rows.specs.SuccessorTensors.{carry_of, last_of}
+use Rattle.tensor.specs.SuccessorTensors.{carry_of, last_of}
 use Rattle.closing.proofs.Ends.{successor_none, successor_made}
 use Rattle.closing.proofs.sums.successor_rows.Goals as goal
 
