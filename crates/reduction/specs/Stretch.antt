@@ -1,12 +1,17 @@
 -- What a stretch holds of an opening.
 use Rattle.std.specs.Prelude.{◌≡◌, ℕ, ◌≤◌, List, map, length}
+use Rattle.level.specs.Element.{Element, width}
 use Rattle.level.specs.declared.level.Level.{Ghosts}
-use Rattle.multilinear.specs.Equality.{Point}
+use Rattle.multilinear.specs.Lent.{lent}
 use Rattle.ring_switch.specs.Opening.{Opening, named, prefix}
 use Rattle.reduction.specs.Layout.{part, point_start}
 use Rattle.reduction.specs.declared.opened.Opened.{Opened}
 
 module _ {X : Type 0} (L : Ghosts X) where
+  -- an element for each coordinate, from a place on
+  abbrev pub rows_in : ℕ → List X → ℕ → Element L.log
+  rows_in start xs = lent L.means (part start (width L.log) xs)
+
   -- the opening at the point that elements are
   abbrev pub opening_at : Opened → List X → Opening L.log
   opening_at o xs = record { point = map L.means xs; view = o.view }

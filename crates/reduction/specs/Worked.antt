@@ -7,12 +7,12 @@ use Rattle.multilinear.specs.Equality.{Point}
 use Rattle.multilinear.specs.Lent.{lent}
 use Rattle.tensor_algebra.specs.Tensor.{Tensor}
 use Rattle.ring_switch.specs.Opening.{Opening, named, low, rest, kept_rows}
-use Rattle.ring_switch.specs.Claims.{tensor, carry, last}
+use Rattle.ring_switch.specs.Claims.{tensor, carry, last, successor_claim}
 use Rattle.ring_switch.specs.Slots.{packed_count, table, slot_table, slot_count}
 use Rattle.ring_switch.specs.Batching.{weight}
 use Rattle.equality.specs.Tables.{Tabulated, Factors}
 use Rattle.reduction.specs.Layout.{part, outer_start, inner_start, tensor_start, carry_start, last_start, low_start, batching_start, table_start, weights_start, outer_entries, inner_entries}
-use Rattle.reduction.specs.Stretch.{opening_in}
+use Rattle.reduction.specs.Stretch.{opening_in, rows_in}
 use Rattle.reduction.specs.declared.opened.Opened.{Opened}
 
 -- two slices begin with the factors of a point's equality table
@@ -30,10 +30,6 @@ abbrev pub last_at : {k : ℕ} → Arithmetic k → Opening k → (ℕ → Eleme
 last_at A o t = last (kept_rows o) (packed_count o) (table A o) t
 
 module _ {X : Type 0} (L : Ghosts X) (c : ℕ) where
-  -- an element for each coordinate, from a place on
-  abbrev pub rows_in : ℕ → List X → ℕ → Element L.log
-  rows_in start xs = lent L.means (part start (width L.log) xs)
-
   -- the places of the factors begin with those of a slot's equality table
   abbrev pub SlotFactors : Point L.log → List X → Type 0
   SlotFactors slot xs =
@@ -43,10 +39,16 @@ module _ {X : Type 0} (L : Ghosts X) (c : ℕ) where
   -- The tables and tensors of an opening, of the packed elements that the stretch holds; carry and last where they are sent.
   pub record Worked (o : Opened) (xs : List X) : Type 0 where
     pub factors : SlotFactors (rest L.arithmetic (opening_in L c o xs)) xs
-    pub tensor_is : rows_in (tensor_start L.log c) xs ≡ tensor_at L.arithmetic (opening_in L c o xs) (lent L.means xs)
-    pub carry_is : L.log < named o.view → rows_in (carry_start L.log c) xs ≡ carry_at L.arithmetic (opening_in L c o xs) (lent L.means xs)
-    pub last_is : L.log < named o.view → rows_in (last_start L.log c) xs ≡ last_at L.arithmetic (opening_in L c o xs) (lent L.means xs)
+    pub tensor_is : rows_in L (tensor_start L.log c) xs ≡ tensor_at L.arithmetic (opening_in L c o xs) (lent L.means xs)
+    pub carry_is : L.log < named o.view → rows_in L (carry_start L.log c) xs ≡ carry_at L.arithmetic (opening_in L c o xs) (lent L.means xs)
+    pub last_is : L.log < named o.view → rows_in L (last_start L.log c) xs ≡ last_at L.arithmetic (opening_in L c o xs) (lent L.means xs)
     pub low_is : Tabulated L.means L.arithmetic L.arithmetic.unit (low (opening_in L c o xs)) (part (low_start L.log c) (width L.log) xs)
+
+  -- the successor claim of the tensors, under a view of q row variables
+  abbrev pub successor_in : ℕ → List X → Element L.log
+  successor_in q xs =
+      successor_claim L.arithmetic (rows_in L (low_start L.log c) xs) q (rows_in L (tensor_start L.log c) xs) (rows_in L (carry_start L.log c) xs)
+      (rows_in L (last_start L.log c) xs)
 
   -- the batching point, and the weights of the slot
   abbrev pub batching_in : List X → Point L.log
@@ -59,7 +61,7 @@ module _ {X : Type 0} (L : Ghosts X) (c : ℕ) where
   abbrev pub weight_in : Opened → Option (Element L.log) → List X → ℕ → Element L.log
   weight_in o α xs =
       let p = opening_in L c o xs in
-      weight L.arithmetic (rows_in (table_start L.log c) xs) (slot_table L.arithmetic p) (kept_rows p) α
+      weight L.arithmetic (rows_in L (table_start L.log c) xs) (slot_table L.arithmetic p) (kept_rows p) α
 
   -- the table of the batching point, and the weights
   pub record Batched (o : Opened) (α : Option (Element L.log)) (xs : List X) : Type 0 where

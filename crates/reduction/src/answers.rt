@@ -1,14 +1,111 @@
-ghost use Rattle.std.specs.Prelude.{◌≡◌, ◌≤◌, length};
+ghost use Rattle.std.specs.Prelude.{◌≡◌, ◌≤◌, length, take};
+ghost use Rattle.level.specs.Element.{width};
+ghost use Rattle.multilinear.specs.Lent.{lent};
+ghost use Rattle.ring_switch.specs.Claims.{incoming, successor_claim};
 ghost use Rattle.ring_switch.specs.Opening.{slot_start};
 ghost use Rattle.ring_switch.specs.Slots.{slot_count};
-ghost use Rattle.reduction.specs.Layout.{part, layout_end};
-ghost use Rattle.reduction.specs.Stretch.{Stands, opening_in};
-ghost use Rattle.reduction.specs.Worked.{weights_in};
+ghost use Rattle.reduction.specs.Layout.{part, tensor_start, low_start, scratch_start, layout_end};
+ghost use Rattle.reduction.specs.Stretch.{Stands, opening_in, rows_in};
+ghost use Rattle.reduction.specs.Worked.{successor_in, weights_in};
 
 use crate::layout::Layout;
 use crate::opened::Opened;
-use crate::parts::{opening_at, part_at, point_in, slot_entries};
+use crate::parts::{opening_at, part_at, point_in, rows_at, slot_entries};
+use coordinates::per_coordinate::PerCoordinate;
+use coordinates::width;
 use level::level::Level;
+use tensor::successor_tensors::SuccessorTensors;
+
+// The sum of a tensor's columns against a table, the columns gathered in a scratch.
+fn incoming_of<L: Level>(tensor: &[L], eq_low: &[L], columns: &mut [L]) -> L
+    requires narrow { L.Level.log ≤ 7 }
+    requires tensor { length tensor.now ≡ width L.Level.log }
+    requires low { length eq_low.now ≡ width L.Level.log }
+    requires columns { length columns.old ≡ width L.Level.log }
+    ensures { L.means result ≡ incoming L.arithmetic (lent L.means eq_low.now) (lent L.means tensor.now) }
+{
+    let tensor = PerCoordinate { elements: tensor };
+    let eq_low = PerCoordinate { elements: eq_low };
+    claims::incoming::incoming_claim(tensor, eq_low, columns)
+}
+
+// The incoming claim of the tensor that the stretch holds, read against the table of the absorbed coordinates.
+pub fn incoming_claim<L: Level>(memory: &mut [L], layout: Layout<L>) -> L
+    requires room { layout_end L.Level.log layout.variables ≤ length memory.old }
+    ensures before { take (scratch_start L.Level.log layout.variables) memory.new ≡ take (scratch_start L.Level.log layout.variables) memory.old }
+    ensures value { L.means result ≡ incoming L.arithmetic (rows_in L.Level (low_start L.Level.log layout.variables) memory.old) (rows_in L.Level (tensor_start L.Level.log layout.variables) memory.old) }
+{
+    let (held, scratch) = memory.split_at_mut(layout.scratch_start());
+    let tensor = rows_at(held, layout.tensor_start());
+    let eq_low = rows_at(held, layout.low_start());
+    incoming_of(tensor, eq_low, &mut scratch[..width::<L>()])
+}
+
+// The successor claim of a tensor, a carry and a last against a table, the columns and their weights gathered in two scratches.
+fn successor_of<L: Level>(
+    tensor: &[L],
+    carry: &[L],
+    last: &[L],
+    eq_low: &[L],
+    rows: usize,
+    columns: &mut [L],
+    weights: &mut [L],
+) -> L
+    requires narrow { L.Level.log ≤ 7 }
+    requires tensor { length tensor.now ≡ width L.Level.log }
+    requires carry { length carry.now ≡ width L.Level.log }
+    requires last { length last.now ≡ width L.Level.log }
+    requires low { length eq_low.now ≡ width L.Level.log }
+    requires columns { length columns.old ≡ width L.Level.log }
+    requires weights { length weights.old ≡ width L.Level.log }
+    ensures { L.means result ≡ successor_claim L.arithmetic (lent L.means eq_low.now) rows (lent L.means tensor.now) (lent L.means carry.now) (lent L.means last.now) }
+{
+    let carry = PerCoordinate { elements: carry };
+    let last = PerCoordinate { elements: last };
+    claims::successor::successor_claim(
+        PerCoordinate { elements: tensor },
+        Some(SuccessorTensors { carry, last }),
+        PerCoordinate { elements: eq_low },
+        rows,
+        columns,
+        weights,
+    )
+}
+
+// The successor claim of the tensors that the stretch holds, under a view of so many row variables. Where rows lie inside an element it reads
+// the tensor alone.
+pub fn successor_claim<L: Level>(memory: &mut [L], layout: Layout<L>, rows: usize) -> L
+    requires room { layout_end L.Level.log layout.variables ≤ length memory.old }
+    ensures before { take (scratch_start L.Level.log layout.variables) memory.new ≡ take (scratch_start L.Level.log layout.variables) memory.old }
+    ensures value { L.means result ≡ successor_in L.Level layout.variables rows memory.old }
+{
+    let width = width::<L>();
+    let (held, scratch) = memory.split_at_mut(layout.scratch_start());
+    let (columns, scratch) = scratch.split_at_mut(width);
+    let tensor = rows_at(held, layout.tensor_start());
+    let carry = rows_at(held, layout.carry_start());
+    let last = rows_at(held, layout.carry_start() + width);
+    let eq_low = rows_at(held, layout.low_start());
+    successor_of(
+        tensor,
+        carry,
+        last,
+        eq_low,
+        rows,
+        columns,
+        &mut scratch[..width],
+    )
+}
+
+// The tensor that the stretch holds, to be sent.
+pub fn tensor<L: Level>(memory: &[L], layout: Layout<L>) -> PerCoordinate<'_, L>
+    requires { layout_end L.Level.log layout.variables ≤ length memory.now }
+    ensures { result.elements.now ≡ part (tensor_start L.Level.log layout.variables) (width L.Level.log) memory.now }
+{
+    PerCoordinate {
+        elements: rows_at(memory, layout.tensor_start()),
+    }
+}
 
 // The packed elements of the slot of the opening that the stretch holds.
 pub fn slot_elements<'a, L: Level>(memory: &'a [L], layout: Layout<L>, opened: Opened) -> &'a [L]
