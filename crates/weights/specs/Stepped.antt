@@ -1,5 +1,5 @@
 -- Weights with successor tensors, from the settled ones.
-use Rattle.std.specs.Prelude.{ℕ, ◌-◌, not}
+use Rattle.std.specs.Prelude.{ℕ, ◌-◌, not, ◌==◌}
 use Rattle.level.specs.Element.{Element, plus}
 use Rattle.level.specs.Laws.{Arithmetic}
 use Rattle.multilinear.specs.Sums.{where_set}
@@ -11,10 +11,6 @@ stepped A r α s i =
     plus (plus (s i) (where_set (not (starts r i)) (A.times α (s (i - 1)))))
     (where_set (ends r i) (A.times (A.times α α) (s i)))
 
--- the two terms apart: s(i), plus a factor times s(i) if i ends a column of 2^r entries
-unfoldable pub ended : {k : ℕ} → Arithmetic k → ℕ → Element k → (ℕ → Element k) → ℕ → Element k
-ended A r φ s i = plus (s i) (where_set (ends r i) (A.times φ (s i)))
-
--- and s(i), plus α·s(i - 1) unless i starts one
-unfoldable pub carried : {k : ℕ} → Arithmetic k → ℕ → Element k → (ℕ → Element k) → ℕ → Element k
-carried A r α s i = plus (s i) (where_set (not (starts r i)) (A.times α (s (i - 1))))
+-- row i of one column of n settled weights: s(i), plus α·s(i - 1) unless it is the first, plus φ·s(i) if it is the last
+unfoldable pub stepped_row : {k : ℕ} → Arithmetic k → ℕ → Element k → Element k → (ℕ → Element k) → ℕ → Element k
+stepped_row A n α φ s i = plus (plus (s i) (where_set (not (i == 0)) (A.times α (s (i - 1))))) (where_set (i == n - 1) (A.times φ (s i)))
