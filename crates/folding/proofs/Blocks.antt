@@ -18,15 +18,12 @@ use Rattle.multilinear.specs.Columns.{starts, ends}
 use Rattle.ring_switch.proofs.ColumnsBounds.{shift_mod, pow_multiple, starts_split}
 use Rattle.ring_switch.proofs.Columns.{where_exterior}
 use Rattle.ring_switch.proofs.SlotTensors.{exterior_zeros}
-use Rattle.folding.specs.Folds.{block}
+use Rattle.folding.specs.Folds.{shifted, block}
 
 -- entry b·m + j is outer b times inner j
 abbrev pub InFactors : {k : ℕ} → Arithmetic k → ℕ → ℕ → (ℕ → Element k) → (ℕ → Element k) → (ℕ → Element k) → Type 0
 InFactors A n m e outer inner = (b j : ℕ) → b < n → j < m → e (b * m + j) ≡ A.times (outer b) (inner j)
 
--- the inner factor one place on, zero where a column of 2^r entries starts
-abbrev pub shifted : {k : ℕ} → ℕ → (ℕ → Element k) → ℕ → Element k
-shifted r inner j = where_set (not (starts r j)) (inner (j - 1))
 
 nonzero : (j : ℕ) → 0 < j → eqb j 0 ≡ false
 nonzero j h = grind (arith, nat_tests)

@@ -11,6 +11,7 @@ use Rattle.multilinear.proofs.Lent.{lent_read}
 use Rattle.multilinear.proofs.Sums.{sum_same}
 use Rattle.tensor_algebra.specs.Tensor.{Tensor, nothing, exterior, add, scale_columns}
 use Rattle.multilinear.proofs.Places.{of_part}
+use Rattle.ring_switch.specs.Claims.{tensor}
 use Rattle.folding.specs.Folds.{block, with_all}
 
 module _ {k : ℕ} (t : Tensor k) (g : ℕ → Tensor k) where
@@ -45,10 +46,10 @@ module _ {X : Type 0} {k : ℕ} (means : X → Element k) where
   -- one more block
   pub block_more : (A : Arithmetic k) (t : Tensor k) (outers lefts values part : List X) (n b len : ℕ) (weight : X) (s r : Tensor k)
       → len ≡ n → length lefts ≡ n → b < length outers → weight ≡ get_or outers b weight → part ≡ take len (drop (b * len) values)
-      → r ≡ add s (scale_columns A (means weight) (λ u. sum (length lefts) (λ j. exterior (lent means lefts j) (lent means part j) u)))
+      → r ≡ add s (scale_columns A (means weight) (tensor (length lefts) (lent means lefts) (lent means part)))
       → s ≡ with_all t (λ i. scale_columns A (lent means outers i) (block n (lent means lefts) (lent means values) i)) b
       → r ≡ with_all t (λ i. scale_columns A (lent means outers i) (block n (lent means lefts) (lent means values) i)) (b + 1)
-  unfolding block
+  unfolding block tensor
   block_more A t outers lefts values part n b len weight s r size shared within read cut made e =
       all_more t (λ i. scale_columns A (lent means outers i) (block n (lent means lefts) (lent means values) i)) b s r
       (made ∙ ap₂ (λ w x. add s (scale_columns A w x)) (lent_read means outers b weight within read)

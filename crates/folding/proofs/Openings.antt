@@ -1,66 +1,93 @@
--- The tensors of an opened table, from those of its slot.
-use Rattle.std.proofs.Common.{◌≡◌, ℕ, ◌+◌, ◌-◌, ◌*◌, ◌^◌, ◌<◌, ◌≤◌, not, List, length, take, drop, Some, sym, ap, ◌∙◌, arith}
+-- The tensors of an opened table, from those of its slot table.
+use Rattle.std.proofs.Common.{◌≡◌, ℕ, ◌+◌, ◌-◌, ◌*◌, ◌%◌, ◌^◌, ◌<◌, ◌≤◌, not, List, length, take, drop, sym, ap, ◌∙◌, subst, ap₂, arith, length-append, take-append-drop, pow-add}
 use mathlib.Core.Path.{fun_ext}
+use Rattle.level.specs.declared.level.Level.{Ghosts}
 use Rattle.level.specs.Element.{Element}
 use Rattle.level.specs.Laws.{Arithmetic, Laws}
 use Rattle.multilinear.specs.Cells.{packed}
-use Rattle.multilinear.specs.Equality.{Point, equality}
+use Rattle.multilinear.specs.Columns.{starts, ends}
+use Rattle.multilinear.specs.Equality.{Point, outer, inner, inner_count}
 use Rattle.multilinear.specs.Lent.{lent}
 use Rattle.multilinear.specs.Sums.{where_set}
-use Rattle.multilinear.proofs.Sums.{sum_same}
-use Rattle.tensor_algebra.specs.Tensor.{Tensor, exterior}
-use Rattle.ring_switch.specs.Opening.{View, rest}
-use Rattle.ring_switch.specs.Claims.{tensor, carry, last}
-use Rattle.multilinear.specs.Columns.{starts, ends}
-use Rattle.ring_switch.specs.ClaimLaws.{opened, opened_carry, opened_last}
-use Rattle.ring_switch.specs.Slots.{in_slot}
-use Rattle.ring_switch.proofs.SlotTensors.{slot, stepped_slot}
-use Rattle.folding.specs.Openings.{Opens, SlotOpens}
 use Rattle.multilinear.proofs.Places.{of_part}
-use Rattle.folding.proofs.Slots.{size_is}
+use Rattle.multilinear.proofs.Sums.{sum_same}
+use Rattle.tensor_algebra.specs.Tensor.{exterior}
+use Rattle.equality.specs.Tables.{Factors}
+use Rattle.equality.proofs.Factoring.{entries_are}
+use Rattle.ring_switch.specs.Opening.{Opening, named, kept_rows, rest}
+use Rattle.ring_switch.specs.Claims.{tensor, carry, last}
+use Rattle.ring_switch.specs.ClaimLaws.{opened, opened_carry, opened_last}
+use Rattle.ring_switch.specs.Slots.{slot_count, in_slot, slot_table}
+use Rattle.ring_switch.proofs.ColumnsBounds.{pow_mod}
+use Rattle.ring_switch.proofs.SlotTensors.{slot, stepped_slot}
+use Rattle.folding.specs.declared.slot_table.SlotTable.{SlotTable}
+use Rattle.folding.specs.Slots.{values_of, table_of, slot_tensor, slot_carry, slot_last}
+use Rattle.folding.specs.Openings.{Opens, SlotOpens}
 
--- tensors of packed elements that agree
-module _ {k : ℕ} (n : ℕ) (e t s : ℕ → Element k) (same : (i : ℕ) → i < n → t i ≡ s i) where
-  tensor_same : (u : ℕ) → tensor n e t u ≡ tensor n e s u
+-- how many entries the table of a point has that two slices hold in factors
+pub size_is : {X : Type 0} {k : ℕ} (means : X → Element k) (A : Arithmetic k) (outers inners : List X) (s : Element k) (p : Point k)
+    → Factors means A s p outers inners → 2 ^ length p ≡ length outers * length inners
+size_is means A outers inners s p f =
+    let parts : length p ≡ length (outer p) + length (inner p) =
+    sym (ap length (take-append-drop (length p - inner_count (length p)) p)) ∙ length-append (outer p) (inner p) in
+    ap (λ n. 2 ^ n) parts ∙ pow-add 2 (length (outer p)) (length (inner p)) ∙ sym (ap₂ (λ a b. a * b) f.outer_table.size f.inner_table.size)
+
+-- tensors of as many entries and packed elements that agree
+module _ {k : ℕ} (n : ℕ) (e d t s : ℕ → Element k) (entries : (i : ℕ) → i < n → e i ≡ d i) (elements : (i : ℕ) → i < n → t i ≡ s i) where
+  tensor_same : (u : ℕ) → tensor n e t u ≡ tensor n d s u
   unfolding tensor
-  tensor_same u = sum_same n _ _ (λ i h. ap (λ x. exterior (e i) x u) (same i h))
+  tensor_same u = sum_same n _ _ (λ i h. ap₂ (λ x y. exterior x y u) (entries i h) (elements i h))
 
-  carry_same : (r u : ℕ) → carry r n e t u ≡ carry r n e s u
+  carry_same : (r u : ℕ) → carry r n e t u ≡ carry r n d s u
   unfolding carry
-  carry_same r u = sum_same n _ _ (λ i h. ap (λ x. where_set (not (starts r i)) (exterior (e (i - 1)) x u)) (same i h))
+  carry_same r u =
+      sum_same n _ _ (λ i h. ap₂ (λ x y. where_set (not (starts r i)) (exterior x y u)) (entries (i - 1) (omega arith)) (elements i h))
 
-  last_same : (r u : ℕ) → last r n e t u ≡ last r n e s u
+  last_same : (r u : ℕ) → last r n e t u ≡ last r n d s u
   unfolding last
-  last_same r u = sum_same n _ _ (λ i h. ap (λ x. where_set (ends r i) (exterior (e i) x u)) (same i h))
+  last_same r u = sum_same n _ _ (λ i h. ap₂ (λ x y. where_set (ends r i) (exterior x y u)) (entries i h) (elements i h))
 
-module _ {X : Type 0} {k : ℕ} (means : X → Element k) {A : Arithmetic k} (laws : Laws A) (p : Point k) (bits : ℕ → ℕ) (outers inners values : List X) where
-  -- the slot of a lent packing, cut out of it
-  pub cut_opens : (view : View) (elements : List X) (start : ℕ) → values ≡ take (length outers * length inners) (drop start elements)
-      → Opens means A p view bits elements start outers inners → SlotOpens means A p view bits values outers inners
-  cut_opens view elements start cut opens = record {
-    values_are =
-        λ i h.
-        let size = size_is means laws outers inners A.unit (rest A p view) opens.factors in
-        let within = (slot laws p view).within in
-        ap (λ xs. lent means xs i) cut ∙ of_part means start (length outers * length inners) elements i (omega arith)
-        ∙ opens.elements_are (start + i) (omega (arith, opens.start_is)) ∙ ap (λ w. packed k bits (w + i)) opens.start_is;
-    factors = opens.factors;
-  }
+-- The slot of a lent packing, cut out of it.
+pub cut_opens : {X : Type 0} (L : Ghosts X) → Laws L.arithmetic → (o : Opening L.log) (bits : ℕ → ℕ) (elements : List X) (start : ℕ) (s : SlotTable X L)
+    → s.values.now ≡ take (length s.equality.outer.now * length s.equality.inner.now) (drop start elements)
+    → Opens L.means L.arithmetic o bits elements start s.equality.outer.now s.equality.inner.now → SlotOpens L s o bits
+cut_opens L laws o bits elements start s cut opens =
+    let n = length s.equality.outer.now * length s.equality.inner.now in
+    let size = size_is L.means L.arithmetic s.equality.outer.now s.equality.inner.now _ (rest L.arithmetic o) opens.factors in
+    let within = (slot laws o).within in
+    record {
+      values_are =
+          λ i h.
+          ap (λ xs. lent L.means xs i) cut ∙ of_part L.means start n elements i (omega arith)
+          ∙ opens.elements_are (start + i) (omega (arith, opens.start_is)) ∙ ap (λ w. packed L.log bits (w + i)) opens.start_is;
+      factors = opens.factors;
+    }
 
-  pub tensor_opened : (view : View) → SlotOpens means A p view bits values outers inners
-      → (r : Tensor k) → r ≡ tensor (2 ^ length (rest A p view)) (equality A (rest A p view)) (lent means values) → r ≡ opened A p bits
-  tensor_opened view opens r made =
-      made ∙ fun_ext (λ u. tensor_same _ _ _ _ opens.values_are u ∙ sym ((slot laws p view).whole_tensor (packed k bits) u))
+-- The three tensors of a slot table of an opening are those of the whole table of bits.
+module _ {X : Type 0} (L : Ghosts X) (laws : Laws L.arithmetic) (s : SlotTable X L) (o : Opening L.log) (bits : ℕ → ℕ) (opens : SlotOpens L s o bits) where
+  size : length s.values.now ≡ slot_count L.arithmetic o
+  size = s.matched ∙ sym (size_is L.means L.arithmetic s.equality.outer.now s.equality.inner.now _ (rest L.arithmetic o) opens.factors)
 
-  module _ (q kept : ℕ) (opens : SlotOpens means A p (Some q) bits values outers inners) (within : q ≤ length p) (keeps : kept ≡ q - k) where
-    pub carry_opened : (r : Tensor k) → r ≡ carry kept (2 ^ length (rest A p (Some q))) (equality A (rest A p (Some q))) (lent means values) → r ≡ opened_carry A p q bits
-    carry_opened r made =
-        made ∙ fun_ext (λ u. carry_same _ _ _ _ opens.values_are kept u
-        ∙ ap (λ i. carry i (2 ^ length (rest A p (Some q))) (equality A (rest A p (Some q))) (in_slot A p (Some q) (packed k bits)) u) keeps
-        ∙ sym ((stepped_slot laws p q within).whole_carry (packed k bits) u))
+  entries : (i : ℕ) → i < slot_count L.arithmetic o → table_of L s i ≡ slot_table L.arithmetic o i
+  entries = entries_are L.means laws L.arithmetic.unit (rest L.arithmetic o) s.equality.outer.now s.equality.inner.now opens.factors
 
-    pub last_opened : (r : Tensor k) → r ≡ last kept (2 ^ length (rest A p (Some q))) (equality A (rest A p (Some q))) (lent means values) → r ≡ opened_last A p q bits
-    last_opened r made =
-        made ∙ fun_ext (λ u. last_same _ _ _ _ opens.values_are kept u
-        ∙ ap (λ i. last i (2 ^ length (rest A p (Some q))) (equality A (rest A p (Some q))) (in_slot A p (Some q) (packed k bits)) u) keeps
-        ∙ sym ((stepped_slot laws p q within).whole_last (packed k bits) u))
+  pub tensor_opened : slot_tensor L s ≡ opened L.arithmetic o bits
+  tensor_opened =
+      fun_ext (λ u. ap (λ n. tensor n (table_of L s) (values_of L s) u) size ∙ tensor_same _ _ _ _ _ entries opens.values_are u
+      ∙ sym ((slot laws o).whole_tensor (packed L.log bits) u))
+
+  module _ (within : named o.view ≤ length o.point) where
+    pub carry_opened : slot_carry L s (kept_rows o) ≡ opened_carry L.arithmetic o bits
+    carry_opened =
+        fun_ext (λ u. ap (λ n. carry (kept_rows o) n (table_of L s) (values_of L s) u) size ∙ carry_same _ _ _ _ _ entries opens.values_are (kept_rows o) u
+        ∙ sym ((stepped_slot laws o within).whole_carry (packed L.log bits) u))
+
+    pub last_opened : slot_last L s (kept_rows o) ≡ opened_last L.arithmetic o bits
+    last_opened =
+        fun_ext (λ u. ap (λ n. last (kept_rows o) n (table_of L s) (values_of L s) u) size ∙ last_same _ _ _ _ _ entries opens.values_are (kept_rows o) u
+        ∙ sym ((stepped_slot laws o within).whole_last (packed L.log bits) u))
+
+    -- and its columns are whole, as the last asks
+    pub columns_whole : length s.values.now % 2 ^ kept_rows o ≡ 0
+    columns_whole =
+        ap (λ n. n % 2 ^ kept_rows o) size ∙ pow_mod (length (rest L.arithmetic o)) (kept_rows o) (stepped_slot laws o within).row_coordinates

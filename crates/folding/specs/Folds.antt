@@ -2,8 +2,12 @@
 use Rattle.std.specs.Prelude.{ℕ, ◌+◌, ◌-◌, ◌*◌, not}
 use Rattle.level.specs.Element.{Element, plus}
 use Rattle.multilinear.specs.Sums.{sum, where_set}
-use Rattle.tensor_algebra.specs.Tensor.{Tensor, exterior}
 use Rattle.multilinear.specs.Columns.{starts}
+use Rattle.tensor_algebra.specs.Tensor.{Tensor, exterior}
+
+-- a table one place on, zero where a column of 2^r entries starts
+abbrev pub shifted : {k : ℕ} → ℕ → (ℕ → Element k) → ℕ → Element k
+shifted r e j = where_set (not (starts r j)) (e (j - 1))
 
 -- the exterior products of block b of a table t, m entries to a block, against left factors that every block shares
 unfoldable pub block : {k : ℕ} → ℕ → (ℕ → Element k) → (ℕ → Element k) → ℕ → Tensor k

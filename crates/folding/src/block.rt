@@ -1,14 +1,14 @@
 ghost use Rattle.std.specs.Prelude.{◌≡◌, ◌+◌, ◌*◌, ◌≤◌, length, take, drop};
+ghost use Rattle.level.specs.Bytes.{num_bytes};
 ghost use Rattle.level.specs.Element.{width};
 ghost use Rattle.multilinear.specs.Lent.{lent};
-ghost use Rattle.multilinear.specs.Sums.{sum};
-ghost use Rattle.tensor_algebra.specs.Tensor.{exterior, add, scale_columns};
-ghost use Rattle.products.specs.Buckets.{bytes};
-ghost use Rattle.folding.specs.Folds.{block, with_all};
+ghost use Rattle.tensor_algebra.specs.Tensor.{add, scale_columns};
+ghost use Rattle.ring_switch.specs.Claims.{tensor};
+ghost use Rattle.folding.specs.Slots.{with_blocks};
 
 use crate::slot_table::SlotTable;
 use coordinates::per_coordinate::PerCoordinate;
-use coordinates::{whole_bytes, width};
+use coordinates::{num_bytes, width};
 use level::level::Level;
 use products::factors::LeftFactors;
 use tensor::bit_tensor::BitTensor;
@@ -16,9 +16,9 @@ use tensor::bit_tensor::BitTensor;
 // How many elements of scratch a fold takes: 256 buckets for each byte of an element, and the rows of one block's sum.
 pub fn scratch_len<L: Level>() -> usize
     requires { L.Level.log ≤ 7 }
-    ensures { result ≡ 256 * bytes L.Level.log + width L.Level.log }
+    ensures { result ≡ 256 * num_bytes L.Level.log + width L.Level.log }
 {
-    256 * whole_bytes::<L>() + width::<L>()
+    256 * num_bytes::<L>() + width::<L>()
 }
 
 // Adds the sum of left[j] ⊗ right[j], its columns scaled by a weight.
@@ -29,14 +29,13 @@ fn add_block<L: Level>(
     weight: L,
     scratch: &mut [L],
 )
-    requires wide { 3 ≤ L.Level.log }
     requires narrow { L.Level.log ≤ 7 }
     requires terms { length right.now ≡ length left.now.left.now }
     requires rows { length rows.old ≡ width L.Level.log }
-    requires scratch { length scratch.old ≡ 256 * bytes L.Level.log + width L.Level.log }
-    ensures { lent L.means rows.new ≡ add (lent L.means rows.old) (scale_columns L.arithmetic (L.means weight) (λ u. sum (length left.now.left.now) (λ j. exterior (lent L.means left.now.left.now j) (lent L.means right.now j) u))) }
+    requires scratch { length scratch.old ≡ 256 * num_bytes L.Level.log + width L.Level.log }
+    ensures { lent L.means rows.new ≡ add (lent L.means rows.old) (scale_columns L.arithmetic (L.means weight) (tensor (length left.now.left.now) (lent L.means left.now.left.now) (lent L.means right.now))) }
 {
-    let (buckets, sum) = scratch.split_at_mut(256 * whole_bytes::<L>());
+    let (buckets, sum) = scratch.split_at_mut(256 * num_bytes::<L>());
     left.sum(right, buckets, sum);
     let mut tensor = BitTensor { rows };
     tensor.add_scaled_columns(PerCoordinate { elements: sum }, weight);
@@ -52,14 +51,12 @@ fn block_at<L: Level>(values: &[L], b: usize, len: usize) -> &[L]
 
 impl<'a, L: Level> SlotTable<'a, L> {
     // Adds for every block the sum of its elements against the left factors, its columns scaled by the block's outer weight. The blocks
-    // go by their index, since nothing says that they are not empty, as `chunks_exact` asks.
+    // go by their index, which says where each begins: beside the outer weights `chunks_exact` would be a second iterator to follow.
     pub(crate) fn add_blocks(&self, rows: &mut [L], left: &LeftFactors<'_, L>, scratch: &mut [L])
-        requires wide { 3 ≤ L.Level.log }
-        requires narrow { L.Level.log ≤ 7 }
         requires left { length left.now.left.now ≡ length self.now.equality.inner.now }
         requires rows { length rows.old ≡ width L.Level.log }
-        requires scratch { length scratch.old ≡ 256 * bytes L.Level.log + width L.Level.log }
-        ensures { lent L.means rows.new ≡ with_all (lent L.means rows.old) (λ b. scale_columns L.arithmetic (lent L.means self.now.equality.outer.now b) (block (length self.now.equality.inner.now) (lent L.means left.now.left.now) (lent L.means self.now.values.now) b)) (length self.now.equality.outer.now) }
+        requires scratch { length scratch.old ≡ 256 * num_bytes L.Level.log + width L.Level.log }
+        ensures { lent L.means rows.new ≡ with_blocks L.Level self.now (lent L.means left.now.left.now) (lent L.means rows.old) }
     {
         let len = self.equality.block_len();
         let outer = self.equality.outer;

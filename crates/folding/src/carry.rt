@@ -1,32 +1,25 @@
-ghost use Rattle.std.specs.Prelude.{◌≡◌, ℕ, ◌+◌, ◌-◌, ◌*◌, ◌^◌, ◌<◌, ◌≤◌, not, length};
-ghost use Rattle.level.specs.Element.{Element, width};
-ghost use Rattle.multilinear.specs.Equality.{Point, entry};
+ghost use Rattle.std.specs.Prelude.{◌≡◌, ℕ, ◌+◌, ◌-◌, ◌*◌, ◌<◌, length};
+ghost use Rattle.level.specs.Bytes.{num_bytes};
+ghost use Rattle.level.specs.Element.{width};
 ghost use Rattle.multilinear.specs.Lent.{lent};
-ghost use Rattle.multilinear.specs.Sums.{where_set};
 ghost use Rattle.tensor_algebra.specs.Tensor.{nothing, exterior, add};
-ghost use Rattle.ring_switch.specs.Claims.{carry};
-ghost use Rattle.multilinear.specs.Columns.{starts};
-ghost use Rattle.equality.specs.Tables.{Factors};
-ghost use Rattle.products.specs.Buckets.{bytes};
-ghost use Rattle.folding.specs.Folds.{with_all, entering};
+ghost use Rattle.folding.specs.Folds.{shifted, entering};
+ghost use Rattle.folding.specs.Slots.{values_of, table_of, slot_carry, with_entering};
 
+use crate::shifting::shift;
 use crate::slot_table::SlotTable;
 use columns::Columns;
 use level::level::Level;
 use products::factors::LeftFactors;
-use products::shifting::shifted;
 use tensor::bit_tensor::BitTensor;
-use tensor_rows::rows::clear;
+use tensor::rows::clear;
 
 impl<'a, L: Level> SlotTable<'a, L> {
     // Adds the first element of block b beside the entry before the block.
     fn add_first(&self, rows: &mut [L], b: usize)
-        requires narrow { L.Level.log ≤ 7 }
-        requires later { 0 < b }
-        requires place { b < length self.now.equality.outer.now }
-        requires filled { 0 < length self.now.equality.inner.now }
+        requires place { (0 < b) × (b < length self.now.equality.outer.now) }
         requires rows { length rows.old ≡ width L.Level.log }
-        ensures { (s : Element L.Level.log) (p : Point L.Level.log) → Factors L.means L.arithmetic s p self.now.equality.outer.now self.now.equality.inner.now → lent L.means rows.new ≡ add (lent L.means rows.old) (exterior (entry L.arithmetic s p (b * length self.now.equality.inner.now - 1)) (lent L.means self.now.values.now (b * length self.now.equality.inner.now))) }
+        ensures { let w = b * length self.now.equality.inner.now in lent L.means rows.new ≡ add (lent L.means rows.old) (exterior (table_of L.Level self.now (w - 1)) (values_of L.Level self.now w)) }
     {
         let first = b * self.equality.block_len();
         let mut tensor = BitTensor { rows };
@@ -35,10 +28,9 @@ impl<'a, L: Level> SlotTable<'a, L> {
 
     // Adds the first element of block b beside the entry before the block, unless that element starts a column.
     fn add_entering(&self, rows: &mut [L], columns: Columns, b: usize)
-        requires narrow { L.Level.log ≤ 7 }
         requires place { b < length self.now.equality.outer.now }
         requires rows { length rows.old ≡ width L.Level.log }
-        ensures { (s : Element L.Level.log) (p : Point L.Level.log) → Factors L.means L.arithmetic s p self.now.equality.outer.now self.now.equality.inner.now → lent L.means rows.new ≡ add (lent L.means rows.old) (entering columns.row_variables (length self.now.equality.inner.now) (entry L.arithmetic s p) (lent L.means self.now.values.now) b) }
+        ensures { lent L.means rows.new ≡ add (lent L.means rows.old) (entering columns.row_variables (length self.now.equality.inner.now) (table_of L.Level self.now) (values_of L.Level self.now) b) }
     {
         if !columns.starts(b * self.equality.block_len()) {
             self.add_first(rows, b);
@@ -47,9 +39,8 @@ impl<'a, L: Level> SlotTable<'a, L> {
 
     // Adds what enters each block from the block before. A block's index says where it begins and which entry stands before it.
     fn add_all_entering(&self, rows: &mut [L], columns: Columns)
-        requires narrow { L.Level.log ≤ 7 }
-        requires rows { length rows.old ≡ width L.Level.log }
-        ensures { (s : Element L.Level.log) (p : Point L.Level.log) → Factors L.means L.arithmetic s p self.now.equality.outer.now self.now.equality.inner.now → lent L.means rows.new ≡ with_all (lent L.means rows.old) (entering columns.row_variables (length self.now.equality.inner.now) (entry L.arithmetic s p) (lent L.means self.now.values.now)) (length self.now.equality.outer.now) }
+        requires { length rows.old ≡ width L.Level.log }
+        ensures { lent L.means rows.new ≡ with_entering L.Level self.now columns.row_variables (lent L.means rows.old) }
     {
         for b in 0..self.equality.outer.len() {
             self.add_entering(rows, columns, b);
@@ -66,17 +57,15 @@ impl<'a, L: Level> SlotTable<'a, L> {
         rows: &mut [L],
         scratch: &mut [L],
     )
-        requires wide { 3 ≤ L.Level.log }
-        requires narrow { L.Level.log ≤ 7 }
         requires shifted { length shifted_inner.old ≡ length self.now.equality.inner.now }
         requires rows { length rows.old ≡ width L.Level.log }
-        requires scratch { length scratch.old ≡ 256 * bytes L.Level.log + width L.Level.log }
-        ensures rows { (s : Element L.Level.log) (p : Point L.Level.log) → Factors L.means L.arithmetic s p self.now.equality.outer.now self.now.equality.inner.now → lent L.means rows.new ≡ carry columns.row_variables (2 ^ length p) (entry L.arithmetic s p) (lent L.means self.now.values.now) }
-        ensures shifted { (j : ℕ) → j < length self.now.equality.inner.now → lent L.means shifted_inner.new j ≡ where_set (not (starts columns.row_variables j)) (lent L.means self.now.equality.inner.now (j - 1)) }
+        requires scratch { length scratch.old ≡ 256 * num_bytes L.Level.log + width L.Level.log }
+        ensures rows { lent L.means rows.new ≡ slot_carry L.Level self.now columns.row_variables }
+        ensures shifted { (j : ℕ) → j < length self.now.equality.inner.now → lent L.means shifted_inner.new j ≡ shifted columns.row_variables (lent L.means self.now.equality.inner.now) j }
         ensures scratch { lent L.means scratch.new ≡ nothing }
     {
         clear(rows);
-        shifted(self.equality.inner, columns, shifted_inner);
+        shift(self.equality.inner, columns, shifted_inner);
         self.add_blocks(rows, &LeftFactors::new(shifted_inner), scratch);
         self.add_all_entering(rows, columns);
         clear(scratch);
