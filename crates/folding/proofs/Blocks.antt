@@ -24,7 +24,6 @@ use Rattle.folding.specs.Folds.{shifted, block}
 abbrev pub InFactors : {k : ℕ} → Arithmetic k → ℕ → ℕ → (ℕ → Element k) → (ℕ → Element k) → (ℕ → Element k) → Type 0
 InFactors A n m e outer inner = (b j : ℕ) → b < n → j < m → e (b * m + j) ≡ A.times (outer b) (inner j)
 
-
 nonzero : (j : ℕ) → 0 < j → eqb j 0 ≡ false
 nonzero j h = grind (arith, nat_tests)
 

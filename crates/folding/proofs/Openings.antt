@@ -1,5 +1,5 @@
 -- The tensors of an opened table, from those of its slot table.
-use Rattle.std.proofs.Common.{◌≡◌, ℕ, ◌+◌, ◌-◌, ◌*◌, ◌%◌, ◌^◌, ◌<◌, ◌≤◌, not, List, length, take, drop, sym, ap, ◌∙◌, subst, ap₂, arith, length-append, take-append-drop, pow-add}
+use Rattle.std.proofs.Common.{◌≡◌, ℕ, ◌+◌, ◌-◌, ◌*◌, ◌%◌, ◌^◌, ◌<◌, ◌≤◌, not, List, length, take, drop, sym, ap, ◌∙◌, ap₂, arith, length-append, take-append-drop, pow-add}
 use mathlib.Core.Path.{fun_ext}
 use Rattle.level.specs.declared.level.Level.{Ghosts}
 use Rattle.level.specs.Element.{Element}
@@ -17,7 +17,7 @@ use Rattle.equality.proofs.Factoring.{entries_are}
 use Rattle.ring_switch.specs.Opening.{Opening, named, kept_rows, rest}
 use Rattle.ring_switch.specs.Claims.{tensor, carry, last}
 use Rattle.ring_switch.specs.ClaimLaws.{opened, opened_carry, opened_last}
-use Rattle.ring_switch.specs.Slots.{slot_count, in_slot, slot_table}
+use Rattle.ring_switch.specs.Slots.{slot_count, slot_table}
 use Rattle.ring_switch.proofs.ColumnsBounds.{pow_mod}
 use Rattle.ring_switch.proofs.SlotTensors.{slot, stepped_slot}
 use Rattle.folding.specs.declared.slot_table.SlotTable.{SlotTable}

@@ -1,7 +1,6 @@
 -- The tensors of a slot whose equality table is held in two factors, from what the folds over blocks and columns leave.
-use Rattle.std.proofs.Common.{◌≡◌, ℕ, zero, suc, ◌+◌, ◌-◌, ◌*◌, ◌^◌, ◌<◌, ◌≤◌, Bool, true, false, not, eqb, List, length, sym, ap, ◌∙◌, subst, ap₂, zero-mul, arith}
+use Rattle.std.proofs.Common.{◌≡◌, ℕ, zero, suc, ◌+◌, ◌-◌, ◌*◌, ◌^◌, ◌<◌, true, false, not, List, length, sym, ap, ◌∙◌, subst, zero-mul, arith}
 use mathlib.Core.Path.{fun_ext}
-use native.Mathlib.Nat.{zero-mod}
 use Rattle.level.specs.Element.{Element, plus}
 use Rattle.level.specs.Laws.{Arithmetic, Laws}
 use Rattle.level.proofs.Elements.{plus_zeros, plus_comm}

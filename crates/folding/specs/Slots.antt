@@ -3,7 +3,7 @@ use Rattle.std.specs.Prelude.{ℕ, length}
 use Rattle.level.specs.declared.level.Level.{Ghosts}
 use Rattle.level.specs.Element.{Element}
 use Rattle.multilinear.specs.Lent.{lent}
-use Rattle.tensor_algebra.specs.Tensor.{Tensor, scale_columns}
+use Rattle.tensor_algebra.specs.Tensor.{Tensor, exterior, scale_columns}
 use Rattle.equality.specs.Tables.{entries_of}
 use Rattle.ring_switch.specs.Claims.{tensor, carry, last}
 use Rattle.folding.specs.Folds.{block, with_all, entering}
@@ -34,6 +34,13 @@ module _ {X : Type 0} (L : Ghosts X) (s : SlotTable X L) where
   with_blocks left t =
       with_all t (λ b. scale_columns L.arithmetic (lent L.means s.equality.outer.now b) (block (length s.equality.inner.now) left values_of b)) (length s.equality.outer.now)
 
-  -- a tensor, with what enters every block from the block before it added
+  -- entry v of the table beside element w
+  abbrev pub term_of : ℕ → ℕ → Tensor L.log
+  term_of v w = exterior (table_of v) (values_of w)
+
+  -- what enters block b from the block before it, and a tensor with what enters every block added
+  abbrev pub entering_of : ℕ → ℕ → Tensor L.log
+  entering_of r = entering r (length s.equality.inner.now) table_of values_of
+
   abbrev pub with_entering : ℕ → Tensor L.log → Tensor L.log
-  with_entering r t = with_all t (entering r (length s.equality.inner.now) table_of values_of) (length s.equality.outer.now)
+  with_entering r t = with_all t (entering_of r) (length s.equality.outer.now)

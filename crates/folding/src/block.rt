@@ -2,8 +2,8 @@ ghost use Rattle.std.specs.Prelude.{◌≡◌, ◌+◌, ◌*◌, ◌≤◌, leng
 ghost use Rattle.level.specs.Bytes.{num_bytes};
 ghost use Rattle.level.specs.Element.{width};
 ghost use Rattle.multilinear.specs.Lent.{lent};
-ghost use Rattle.tensor_algebra.specs.Tensor.{add, scale_columns};
-ghost use Rattle.ring_switch.specs.Claims.{tensor};
+ghost use Rattle.tensor_algebra.specs.Tensor.{exterior, add, scale_columns};
+ghost use Rattle.folding.specs.Folds.{terms_of};
 ghost use Rattle.folding.specs.Slots.{with_blocks};
 
 use crate::slot_table::SlotTable;
@@ -21,6 +21,16 @@ pub fn scratch_len<L: Level>() -> usize
     256 * num_bytes::<L>() + width::<L>()
 }
 
+// Adds a ⊗ b.
+pub(crate) fn add_exterior_product<L: Level>(rows: &mut [L], a: L, b: L)
+    requires narrow { L.Level.log ≤ 7 }
+    requires rows { length rows.old ≡ width L.Level.log }
+    ensures { lent L.means rows.new ≡ add (lent L.means rows.old) (exterior (L.means a) (L.means b)) }
+{
+    let mut tensor = BitTensor { rows };
+    tensor.add_exterior_product(a, b);
+}
+
 // Adds the sum of left[j] ⊗ right[j], its columns scaled by a weight.
 fn add_block<L: Level>(
     rows: &mut [L],
@@ -33,7 +43,7 @@ fn add_block<L: Level>(
     requires terms { length right.now ≡ length left.now.left.now }
     requires rows { length rows.old ≡ width L.Level.log }
     requires scratch { length scratch.old ≡ 256 * num_bytes L.Level.log + width L.Level.log }
-    ensures { lent L.means rows.new ≡ add (lent L.means rows.old) (scale_columns L.arithmetic (L.means weight) (tensor (length left.now.left.now) (lent L.means left.now.left.now) (lent L.means right.now))) }
+    ensures { lent L.means rows.new ≡ add (lent L.means rows.old) (scale_columns L.arithmetic (L.means weight) (terms_of L.means left.now.left.now right.now)) }
 {
     let (buckets, sum) = scratch.split_at_mut(256 * num_bytes::<L>());
     left.sum(right, buckets, sum);

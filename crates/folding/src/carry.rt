@@ -2,16 +2,16 @@ ghost use Rattle.std.specs.Prelude.{◌≡◌, ℕ, ◌+◌, ◌-◌, ◌*◌, �
 ghost use Rattle.level.specs.Bytes.{num_bytes};
 ghost use Rattle.level.specs.Element.{width};
 ghost use Rattle.multilinear.specs.Lent.{lent};
-ghost use Rattle.tensor_algebra.specs.Tensor.{nothing, exterior, add};
-ghost use Rattle.folding.specs.Folds.{shifted, entering};
-ghost use Rattle.folding.specs.Slots.{values_of, table_of, slot_carry, with_entering};
+ghost use Rattle.tensor_algebra.specs.Tensor.{nothing, add};
+ghost use Rattle.folding.specs.Folds.{shifted};
+ghost use Rattle.folding.specs.Slots.{term_of, entering_of, slot_carry, with_entering};
 
+use crate::block::add_exterior_product;
 use crate::shifting::shift;
 use crate::slot_table::SlotTable;
 use columns::Columns;
 use level::level::Level;
 use products::factors::LeftFactors;
-use tensor::bit_tensor::BitTensor;
 use tensor::rows::clear;
 
 impl<'a, L: Level> SlotTable<'a, L> {
@@ -19,18 +19,17 @@ impl<'a, L: Level> SlotTable<'a, L> {
     fn add_first(&self, rows: &mut [L], b: usize)
         requires place { (0 < b) × (b < length self.now.equality.outer.now) }
         requires rows { length rows.old ≡ width L.Level.log }
-        ensures { let w = b * length self.now.equality.inner.now in lent L.means rows.new ≡ add (lent L.means rows.old) (exterior (table_of L.Level self.now (w - 1)) (values_of L.Level self.now w)) }
+        ensures { let w = b * length self.now.equality.inner.now in lent L.means rows.new ≡ add (lent L.means rows.old) (term_of L.Level self.now (w - 1) w) }
     {
         let first = b * self.equality.block_len();
-        let mut tensor = BitTensor { rows };
-        tensor.add_exterior_product(self.equality.before_block(b), self.values[first]);
+        add_exterior_product(rows, self.equality.before_block(b), self.values[first]);
     }
 
     // Adds the first element of block b beside the entry before the block, unless that element starts a column.
     fn add_entering(&self, rows: &mut [L], columns: Columns, b: usize)
         requires place { b < length self.now.equality.outer.now }
         requires rows { length rows.old ≡ width L.Level.log }
-        ensures { lent L.means rows.new ≡ add (lent L.means rows.old) (entering columns.row_variables (length self.now.equality.inner.now) (table_of L.Level self.now) (values_of L.Level self.now) b) }
+        ensures { lent L.means rows.new ≡ add (lent L.means rows.old) (entering_of L.Level self.now columns.row_variables b) }
     {
         if !columns.starts(b * self.equality.block_len()) {
             self.add_first(rows, b);

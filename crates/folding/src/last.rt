@@ -1,13 +1,13 @@
 ghost use Rattle.std.specs.Prelude.{◌≡◌, ◌%◌, ◌^◌, ◌<◌, length};
 ghost use Rattle.level.specs.Element.{width};
 ghost use Rattle.multilinear.specs.Lent.{lent};
-ghost use Rattle.tensor_algebra.specs.Tensor.{exterior, add};
-ghost use Rattle.folding.specs.Slots.{values_of, table_of, slot_last};
+ghost use Rattle.tensor_algebra.specs.Tensor.{add};
+ghost use Rattle.folding.specs.Slots.{term_of, slot_last};
 
+use crate::block::add_exterior_product;
 use crate::slot_table::SlotTable;
 use columns::Columns;
 use level::level::Level;
-use tensor::bit_tensor::BitTensor;
 use tensor::rows::clear;
 
 impl<'a, L: Level> SlotTable<'a, L> {
@@ -15,10 +15,9 @@ impl<'a, L: Level> SlotTable<'a, L> {
     fn add_entry(&self, rows: &mut [L], w: usize)
         requires place { w < length self.now.values.now }
         requires rows { length rows.old ≡ width L.Level.log }
-        ensures { lent L.means rows.new ≡ add (lent L.means rows.old) (exterior (table_of L.Level self.now w) (values_of L.Level self.now w)) }
+        ensures { lent L.means rows.new ≡ add (lent L.means rows.old) (term_of L.Level self.now w w) }
     {
-        let mut tensor = BitTensor { rows };
-        tensor.add_exterior_product(self.equality.entry(w), self.values[w]);
+        add_exterior_product(rows, self.equality.entry(w), self.values[w]);
     }
 
     // Makes the rows those of the last of the slot: the sum of e(w) ⊗ values[w] over the w that end a column, with e the equality

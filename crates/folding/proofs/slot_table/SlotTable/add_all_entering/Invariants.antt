@@ -1,7 +1,7 @@
-use Rattle.std.proofs.Common.{◌≡◌, length}
+use Rattle.std.proofs.Common.{◌≡◌}
 use Rattle.multilinear.specs.Lent.{lent}
-use Rattle.folding.specs.Folds.{with_all, entering}
-use Rattle.folding.specs.Slots.{values_of, table_of}
+use Rattle.folding.specs.Folds.{with_all}
+use Rattle.folding.specs.Slots.{entering_of}
 use Rattle.folding.proofs.slot_table.SlotTable.add_all_entering.Given as goal
 
 abbrev pub invariant-loop-b : goal.invariant-loop-b
@@ -9,4 +9,4 @@ invariant-loop-b g l =
     let m = g.L.Level in
     let s = l.self in
     lent m.means l.rows
-    ≡ with_all (lent m.means l.initial.rows) (entering l.columns.row_variables (length s.equality.inner.now) (table_of m s) (values_of m s)) l.b
+    ≡ with_all (lent m.means l.initial.rows) (entering_of m s l.columns.row_variables) l.b

@@ -1,4 +1,4 @@
-use Rattle.std.proofs.Common.{◌≡◌, ◌*◌, ◌<◌, length, false, true, sym, ap, ◌∙◌, arith}
+use Rattle.std.proofs.Common.{◌≡◌, ◌*◌, ◌<◌, length, sym, ap, ◌∙◌}
 use Rattle.multilinear.specs.Columns.{starts}
 use Rattle.folding.specs.Slots.{values_of, table_of}
 use Rattle.folding.proofs.Slots.{none_enters, first_enters, later_block}
@@ -8,7 +8,8 @@ pub add_first-requires-clause-place : goal.add_first-requires-clause-place
 add_first-requires-clause-place g c =
     let r = c.args.columns.row_variables in
     let m = length c.args.self.now.equality.inner.now in
-    let later : 0 < c.args.b = later_block r m c.args.b (sym (c.if-not-starts.ensures ∙ ap (λ n. starts r (c.args.b * n)) c.block_len.ensures)) in
+    let place : starts r (c.args.b * c.block_len.result) ≡ starts r (c.args.b * m) = ap (λ n. starts r (c.args.b * n)) c.block_len.ensures in
+    let later : 0 < c.args.b = later_block r m c.args.b (sym (c.if-not-starts.ensures ∙ place)) in
     (later, c.requires.place)
 
 pub returns-then-not-starts : goal.returns-then-not-starts

@@ -1,7 +1,7 @@
 use Rattle.std.proofs.Common.{◌≡◌, ◌*◌, ◌/◌, ◌^◌, length, sym, ap, ◌∙◌, arith}
 use Rattle.multilinear.specs.Lent.{lent}
-use Rattle.tensor_algebra.specs.Tensor.{exterior, add}
-use Rattle.folding.specs.Slots.{values_of, table_of}
+use Rattle.tensor_algebra.specs.Tensor.{add}
+use Rattle.folding.specs.Slots.{term_of}
 use Rattle.folding.proofs.Folds.{all_none, all_more, whole_columns}
 use Rattle.folding.proofs.Slots.{last_made}
 use Rattle.folding.proofs.slot_table.SlotTable.last.Goals as goal
@@ -14,7 +14,7 @@ loop-c-preserved g c =
     let m = g.L.Level in
     let s = c.args.self.now in
     all_more _ _ c.loop-c.c _ _
-    (c.add_entry.ensures ∙ ap (λ w. add (lent m.means c.loop-c.rows) (exterior (table_of m s w) (values_of m s w))) c.last.ensures)
+    (c.add_entry.ensures ∙ ap (λ w. add (lent m.means c.loop-c.rows) (term_of m s w w)) c.last.ensures)
     c.loop-c.invariant
 
 pub returns : goal.returns
