@@ -1,5 +1,4 @@
 // Sums of exterior products over lent memory, gathered in buckets by the bytes of their left factors and read out row by row.
-// One list of left factors serves many blocks of right factors; shifted by one place, it serves the carry.
 // Left and right factors are two slices of one length, since one list of left factors serves many blocks.
 #![tactic(auto)]
 
@@ -7,4 +6,3 @@ pub mod buckets;
 pub mod factors;
 mod gathering;
 mod reading;
-pub mod shifting;
