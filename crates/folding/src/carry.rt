@@ -10,9 +10,9 @@ use crate::block::add_exterior_product;
 use crate::shifting::shift;
 use crate::slot_table::SlotTable;
 use columns::Columns;
+use coordinates::clear;
 use level::level::Level;
 use products::factors::LeftFactors;
-use tensor::rows::clear;
 
 impl<'a, L: Level> SlotTable<'a, L> {
     // Adds the first element of block b beside the entry before the block.

@@ -7,8 +7,8 @@ ghost use Rattle.folding.specs.Slots.{term_of, slot_last};
 use crate::block::add_exterior_product;
 use crate::slot_table::SlotTable;
 use columns::Columns;
+use coordinates::clear;
 use level::level::Level;
-use tensor::rows::clear;
 
 impl<'a, L: Level> SlotTable<'a, L> {
     // Adds e(w) ⊗ values[w], with e the equality table that the factors hold.

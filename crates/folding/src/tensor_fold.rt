@@ -6,9 +6,9 @@ ghost use Rattle.tensor_algebra.specs.Tensor.{nothing};
 ghost use Rattle.folding.specs.Slots.{slot_tensor};
 
 use crate::slot_table::SlotTable;
+use coordinates::clear;
 use level::level::Level;
 use products::factors::LeftFactors;
-use tensor::rows::clear;
 
 impl<'a, L: Level> SlotTable<'a, L> {
     // Makes the rows those of the tensor of the slot: the sum of e(w) ⊗ values[w], with e the equality table that the factors hold.
