@@ -38,7 +38,7 @@ pub fn coordinates<L: Level>(x: L) -> u128
     u128::from_le_bytes(x.to_bytes())
 }
 
-// The element with those coordinates, bits past the width dropped, and none set from the 128th on.
+// The element with those coordinates: bits past the width are dropped, and coordinates from 128 on are 0.
 #[tactic(auto, using(crate::proofs::Numbers::element_of, level::proofs::Words::to_le_bytes))]
 pub fn from_coordinates<L: Level>(coordinates: u128) -> L
     ensures { L.means result ≡ cut L.Level.log coordinates }
