@@ -4,7 +4,7 @@ use Rattle.level.specs.Element.{Element, width, zeros}
 use Rattle.level.specs.Laws.{Arithmetic}
 use Rattle.multilinear.specs.Gathered.{binary, binary_fits}
 
--- cell c: bit c mod 8, least first, of byte c div 8
+-- the cells of bytes: byte b holds cells 8b to 8b + 7, the least bit first
 unfoldable pub cell : List ℕ → ℕ → ℕ
 cell bytes c = slice_index bytes (c / 8) / 2 ^ (c % 8) % 2
 
@@ -25,6 +25,6 @@ packed k bits w = gather k (λ v. bits (w * width k + v))
 unfoldable pub successor : ℕ → ℕ → ℕ
 successor q c = cond (c % 2 ^ q == 2 ^ q - 1) c (c + 1)
 
--- the bits one row on, last rows repeated
+-- the bits that the successors of the cells hold: each row shows the one after it, and the last row itself
 unfoldable pub one_row_on : ℕ → (ℕ → ℕ) → ℕ → ℕ
 one_row_on q bits c = bits (successor q c)

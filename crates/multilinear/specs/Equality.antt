@@ -26,7 +26,7 @@ equality A p = entry A A.unit p
 unfoldable pub multilinear : {k : ℕ} → Arithmetic k → (ℕ → Element k) → Point k → Element k
 multilinear A table p = sum (2 ^ length p) (λ i. A.times (table i) (equality A p i))
 
--- how many coordinates the inner factor of a factored table takes: the last 14, or all if fewer
+-- how many coordinates, from the end, the inner factor of a factored table takes
 abbrev pub inner_count : ℕ → ℕ
 inner_count l = min 14 l
 

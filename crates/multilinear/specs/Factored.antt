@@ -12,7 +12,7 @@ pub record Factored {k : ℕ} (A : Arithmetic k) : Type 0 where
   -- of a point in two parts, an entry is the product of an entry of each
   pub split : (s : Element k) (p q : Point k) (i : ℕ)
       → entry A s (p ++ q) i ≡ A.times (equality A p (i / 2 ^ length q)) (entry A s q i)
-  -- the inner factor has the last 14 coordinates, or all if fewer, and the outer the others
+  -- the inner factor takes min(14, length p) coordinates from the end, and the outer the others
   pub inner_length : (p : Point k) → length (inner p) ≡ inner_count (length p)
   pub outer_length : (p : Point k) → length (outer p) ≡ length p - inner_count (length p)
   -- an entry is the product of an entry of each

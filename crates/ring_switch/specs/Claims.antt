@@ -10,7 +10,7 @@ use Rattle.tensor_algebra.specs.Tensor.{Tensor, exterior, column, by_columns}
 unfoldable pub tensor : {k : ℕ} → ℕ → (ℕ → Element k) → (ℕ → Element k) → Tensor k
 tensor n e t u = sum n (λ w. exterior (e w) (t w) u)
 
--- the sum of e(w - 1) ⊗ t(w) over the w that do not start a column of 2^r entries
+-- each packed element beside the entry before it: e(w - 1) ⊗ t(w), summed where w is not the first of its column of 2^r entries
 unfoldable pub carry : {k : ℕ} → ℕ → ℕ → (ℕ → Element k) → (ℕ → Element k) → Tensor k
 carry r n e t u = sum n (λ w. where_set (not (starts r w)) (exterior (e (w - 1)) (t w) u))
 

@@ -4,7 +4,7 @@ use Rattle.level.specs.Element.{Element}
 use Rattle.level.specs.Laws.{Arithmetic}
 use Rattle.multilinear.specs.Equality.{Point}
 
--- a view names q row variables; without one no successor is asked for
+-- how many row variables a view has; without one no successor is asked for
 abbrev pub View : Type 0
 View = Option ℕ
 

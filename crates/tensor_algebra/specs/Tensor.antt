@@ -14,7 +14,7 @@ Tensor k = ℕ → Element k
 unfoldable pub nothing : {k : ℕ} → Tensor k
 nothing {k} u = zeros k
 
--- a ⊗ b: row u is b where coordinate u of a is set, else zero
+-- a ⊗ b: its rows are b at the set coordinates of a, and zero at the others
 unfoldable pub exterior : {k : ℕ} → Element k → Element k → Tensor k
 exterior a b u = at_bit (coordinate a u) b
 
@@ -22,7 +22,7 @@ exterior a b u = at_bit (coordinate a u) b
 unfoldable pub add : {k : ℕ} → Tensor k → Tensor k → Tensor k
 add t s u = plus (t u) (s u)
 
--- column v: its coordinate u is coordinate v of row u
+-- column v: rows and columns exchanged, coordinate v of each row in turn
 unfoldable pub column : {k : ℕ} → Tensor k → ℕ → Element k
 column {k} t v = gather k (λ u. coordinate (t u) v)
 
