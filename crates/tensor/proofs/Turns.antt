@@ -1,11 +1,10 @@
 -- One turn of the loops over rows, and what they end with.
-use Rattle.std.proofs.Common.{◌≡◌, ℕ, zero, suc, ◌+◌, ◌-◌, ◌*◌, ◌/◌, ◌%◌, ◌^◌, ◌<◌, ◌≤◌, min, List, [], ◌∷◌, length, get_or, take, drop, length-take-le, length-drop, set, sym, ap, ◌∙◌, ap₂, ⊎_elim, arith, pow_mono}
+use Rattle.std.proofs.Common.{◌≡◌, ℕ, zero, suc, ◌+◌, ◌-◌, ◌*◌, ◌/◌, ◌%◌, ◌^◌, ◌<◌, ◌≤◌, min, List, length, get_or, take, drop, length-take-le, length-drop, set, sym, ap, ◌∙◌, ap₂, ⊎_elim, arith, pow_mono}
 use borrow.Rule.Slice.PartMut.{put_mid}
-use mathlib.Core.Path.{fun_ext}
 use Rattle.std.proofs.lemmas.Bool.{cases_lt}
 use Rattle.coordinates.specs.SetPlaces.{NextSet}
 use Rattle.level.specs.Bytes.{sixteen, num_bytes}
-use Rattle.level.specs.Element.{Element, width, coordinate, plus, zeros}
+use Rattle.level.specs.Element.{Element, width, coordinate, plus}
 use Rattle.level.specs.Laws.{Arithmetic, Laws}
 use Rattle.level.proofs.Digits.{bytes_are_coordinates}
 use Rattle.level.proofs.Elements.{plus_zeros}
