@@ -9,10 +9,10 @@ use Rattle.tensor_algebra.specs.Tensor.{Tensor}
 use Rattle.ring_switch.specs.Opening.{Opening, named, low, rest, kept_rows}
 use Rattle.ring_switch.specs.Claims.{tensor, carry, last, successor_claim}
 use Rattle.ring_switch.specs.Slots.{packed_count, table, slot_table, slot_count}
-use Rattle.ring_switch.specs.Batching.{weight}
+use Rattle.ring_switch.specs.Batching.{weight, initial_sum}
 use Rattle.equality.specs.Tables.{Tabulated, Factors}
 use Rattle.reduction.specs.Layout.{part, outer_start, inner_start, tensor_start, carry_start, last_start, low_start, batching_start, table_start, weights_start, outer_entries, inner_entries}
-use Rattle.reduction.specs.Stretch.{opening_in, rows_in}
+use Rattle.reduction.specs.Stretch.{opening_at, point_in, opening_in, rows_in}
 use Rattle.reduction.specs.declared.opened.Opened.{Opened}
 
 -- two slices begin with the factors of a point's equality table
@@ -28,6 +28,10 @@ carry_at A o t = carry (kept_rows o) (packed_count o) (table A o) t
 
 abbrev pub last_at : {k : ℕ} → Arithmetic k → Opening k → (ℕ → Element k) → Tensor k
 last_at A o t = last (kept_rows o) (packed_count o) (table A o) t
+
+-- the weights of the slot of an opening at the point that elements are, by the batching weights f of an element's coordinates
+abbrev pub weight_at : {X : Type 0} (L : Ghosts X) → Opened → List X → (ℕ → Element L.log) → Option (Element L.log) → ℕ → Element L.log
+weight_at L o xs f α = let p = opening_at L o xs in weight L.arithmetic f (slot_table L.arithmetic p) (kept_rows p) α
 
 module _ {X : Type 0} (L : Ghosts X) (c : ℕ) where
   -- the places of the factors begin with those of a slot's equality table
@@ -57,11 +61,15 @@ module _ {X : Type 0} (L : Ghosts X) (c : ℕ) where
   abbrev pub weights_in : Opened → List X → List X
   weights_in o xs = part (weights_start L.log c) (slot_count L.arithmetic (opening_in L c o xs)) xs
 
-  -- the weights of the slot of an opening under a challenge, by the equality table of the batching point that the stretch holds
+  -- the weight of each entry of the slot, under a challenge or none, by the equality table of the batching point that the stretch holds
   abbrev pub weight_in : Opened → Option (Element L.log) → List X → ℕ → Element L.log
-  weight_in o α xs =
-      let p = opening_in L c o xs in
-      weight L.arithmetic (rows_in L (table_start L.log c) xs) (slot_table L.arithmetic p) (kept_rows p) α
+  weight_in o α xs = weight_at L o (point_in L c o xs) (rows_in L (table_start L.log c) xs) α
+
+  -- the initial sum of the tensors, by the same
+  abbrev pub initial_in : Option (Element L.log) → List X → Element L.log
+  initial_in α xs =
+      initial_sum L.arithmetic (rows_in L (table_start L.log c) xs) α (rows_in L (tensor_start L.log c) xs) (rows_in L (carry_start L.log c) xs)
+      (rows_in L (last_start L.log c) xs)
 
   -- the table of the batching point, and the weights
   pub record Batched (o : Opened) (α : Option (Element L.log)) (xs : List X) : Type 0 where

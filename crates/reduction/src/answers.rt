@@ -1,12 +1,14 @@
-ghost use Rattle.std.specs.Prelude.{◌≡◌, ◌≤◌, length, take};
+ghost use Rattle.std.specs.Prelude.{◌≡◌, ◌*◌, ◌<◌, ◌≤◌, map, length, take, is_some};
+ghost use Rattle.std.specs.Option.{option_map};
+ghost use Rattle.multilinear.specs.Equality.{multilinear};
 ghost use Rattle.level.specs.Element.{width};
 ghost use Rattle.multilinear.specs.Lent.{lent};
 ghost use Rattle.ring_switch.specs.Claims.{incoming, successor_claim};
-ghost use Rattle.ring_switch.specs.Opening.{slot_start};
+ghost use Rattle.ring_switch.specs.Opening.{kept, rest, slot_start};
 ghost use Rattle.ring_switch.specs.Slots.{slot_count};
 ghost use Rattle.reduction.specs.Layout.{part, tensor_start, low_start, scratch_start, layout_end};
-ghost use Rattle.reduction.specs.Stretch.{Stands, opening_in, rows_in};
-ghost use Rattle.reduction.specs.Worked.{successor_in, weights_in};
+ghost use Rattle.reduction.specs.Stretch.{Fits, Stands, opening_at as opening_of_point, opening_in, rows_in};
+ghost use Rattle.reduction.specs.Worked.{successor_in, initial_in, weight_at, weight_in, weights_in};
 
 use crate::layout::Layout;
 use crate::opened::Opened;
@@ -14,6 +16,7 @@ use crate::parts::{opening_at, part_at, point_in, rows_at, slot_entries};
 use coordinates::per_coordinate::PerCoordinate;
 use coordinates::width;
 use level::level::Level;
+use opening::batch::BitRingSwitchBatch;
 use tensor::successor_tensors::SuccessorTensors;
 
 // The sum of a tensor's columns against a table, the columns gathered in a scratch.
@@ -95,6 +98,97 @@ pub fn successor_claim<L: Level>(memory: &mut [L], layout: Layout<L>, rows: usiz
         columns,
         &mut scratch[..width],
     )
+}
+
+// The batching of an opening at a point with these numbers.
+fn batch_at<'a, L: Level>(
+    point: &'a [L],
+    opened: Opened,
+    eq_batch: &'a [L],
+    alpha: Option<L>,
+) -> BitRingSwitchBatch<'a, L>
+    requires narrow { L.Level.log ≤ 7 }
+    requires few { opened.variables < 64 }
+    requires fits { Fits L.Level opened point.now }
+    requires table { length eq_batch.now ≡ width L.Level.log }
+    requires challenged { is_some alpha ≡ is_some (kept L.Level.log opened.view) }
+    ensures point { result.reduction.point.now ≡ point.now }
+    ensures view { result.reduction.view ≡ opened.view }
+    ensures table { result.eq_batch.elements.now ≡ eq_batch.now }
+    ensures alpha { result.alpha ≡ alpha }
+{
+    BitRingSwitchBatch {
+        reduction: opening_at(point, opened),
+        eq_batch: PerCoordinate { elements: eq_batch },
+        alpha,
+    }
+}
+
+// The initial sum of the tensors that the stretch holds, under a challenge exactly where the carry and the last are sent.
+pub fn initial_sum<L: Level>(memory: &[L], layout: Layout<L>, opened: Opened, alpha: Option<L>) -> L
+    requires room { layout_end L.Level.log layout.variables ≤ length memory.now }
+    requires stands { Stands L.Level layout.variables opened memory.now }
+    requires challenged { is_some alpha ≡ is_some (kept L.Level.log opened.view) }
+    ensures { L.means result ≡ initial_in L.Level layout.variables (option_map L.means alpha) memory.now }
+{
+    let point = point_in(memory, layout, opened.variables);
+    let width = width::<L>();
+    let eq_batch = rows_at(memory, layout.batching_start() + width);
+    let batch = batch_at(point, opened, eq_batch, alpha);
+    let carry = rows_at(memory, layout.carry_start());
+    let last = rows_at(memory, layout.carry_start() + width);
+    let carry = PerCoordinate { elements: carry };
+    let last = PerCoordinate { elements: last };
+    closing::sums::initial_sum(
+        &batch,
+        tensor(memory, layout),
+        Some(SuccessorTensors { carry, last }),
+    )
+}
+
+// The closing value over slices.
+fn closing_of<L: Level>(
+    point: &[L],
+    opened: Opened,
+    eq_batch: &[L],
+    alpha: Option<L>,
+    z: &[L],
+    scratch: &mut [L],
+) -> L
+    requires narrow { L.Level.log ≤ 7 }
+    requires few { opened.variables < 64 }
+    requires fits { Fits L.Level opened point.now }
+    requires table { length eq_batch.now ≡ width L.Level.log }
+    requires challenged { is_some alpha ≡ is_some (kept L.Level.log opened.view) }
+    requires closing { length z.now ≡ length (rest L.arithmetic (opening_of_point L.Level opened point.now)) }
+    requires scratch { length scratch.old ≡ 3 * width L.Level.log }
+    ensures { L.means result ≡ multilinear L.arithmetic (weight_at L.Level opened point.now (lent L.means eq_batch.now) (option_map L.means alpha)) (map L.means z.now) }
+{
+    let batch = batch_at(point, opened, eq_batch, alpha);
+    closing::closing::closing_value(&batch, z, scratch)
+}
+
+// The closing value at a point with a coordinate for each of the slot's: the multilinear value there of the slot's weights, formed from
+// the batching table that the stretch holds.
+pub fn closing_value<L: Level>(
+    memory: &mut [L],
+    layout: Layout<L>,
+    opened: Opened,
+    alpha: Option<L>,
+    z: &[L],
+) -> L
+    requires room { layout_end L.Level.log layout.variables ≤ length memory.old }
+    requires stands { Stands L.Level layout.variables opened memory.old }
+    requires challenged { is_some alpha ≡ is_some (kept L.Level.log opened.view) }
+    requires closing { length z.now ≡ length (rest L.arithmetic (opening_in L.Level layout.variables opened memory.old)) }
+    ensures before { take (scratch_start L.Level.log layout.variables) memory.new ≡ take (scratch_start L.Level.log layout.variables) memory.old }
+    ensures value { L.means result ≡ multilinear L.arithmetic (weight_in L.Level layout.variables opened (option_map L.means alpha) memory.old) (map L.means z.now) }
+{
+    let width = width::<L>();
+    let (held, scratch) = memory.split_at_mut(layout.scratch_start());
+    let point = point_in(held, layout, opened.variables);
+    let eq_batch = rows_at(held, layout.batching_start() + width);
+    closing_of(point, opened, eq_batch, alpha, z, &mut scratch[..3 * width])
 }
 
 // The tensor that the stretch holds, to be sent.
