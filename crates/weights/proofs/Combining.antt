@@ -1,5 +1,5 @@
 -- Settled weights combined in place, column by column.
-use Rattle.std.proofs.Common.{◌≡◌, ℕ, ◌+◌, ◌-◌, ◌*◌, ◌/◌, ◌%◌, ◌^◌, ◌<◌, ◌≤◌, true, false, not, eqb, ◌≢◌, ◌⊎◌, inl, inr, List, length, get_or, set, take, drop, sym, refl, ap, ◌∙◌, ap₂, ⊎_elim, mul-le-mul_right, suc-mul, div-add-mod', add-one, arith, length-drop}
+use Rattle.std.proofs.Common.{◌≡◌, ℕ, ◌+◌, ◌-◌, ◌*◌, ◌/◌, ◌%◌, ◌^◌, ◌<◌, ◌≤◌, true, not, eqb, ◌≢◌, ◌⊎◌, inl, inr, List, length, set, take, drop, sym, refl, ap, ◌∙◌, ap₂, ⊎_elim, mul-le-mul_right, suc-mul, div-add-mod', add-one, arith, length-drop}
 use borrow.Rule.Slice.PartMut.{put_mid}
 use lib.Arith.{digits_mod}
 use Rattle.std.proofs.lemmas.List.{length-take-le}

@@ -1,1 +1,3 @@
 pub mod Combining
+pub mod Settling
+pub mod Weighing

@@ -1,1 +1,3 @@
+pub mod Settled
 pub mod Stepped
+pub mod Weighed

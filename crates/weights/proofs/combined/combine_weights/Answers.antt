@@ -1,6 +1,8 @@
-use Rattle.std.proofs.Common.{◌≡◌, ◌+◌, ◌-◌, ◌*◌, ◌/◌, ◌^◌, ◌<◌, ◌≤◌, length, ap, ◌∙◌, subst, arith, rules, mul-le-mul_right, div-mul-le_self}
+use Rattle.std.proofs.Common.{◌≡◌, ◌+◌, ◌-◌, ◌*◌, ◌/◌, ◌^◌, ◌<◌, ◌≤◌, length, ap, subst, arith, rules, mul-le-mul_right, div-mul-le_self}
 use prog.Memory.{size}
 use denote.Param.{layout}
+use Rattle.multilinear.specs.Lent.{lent}
+use Rattle.weights.specs.Stepped.{stepped}
 use Rattle.weights.proofs.Combining.{column_more, columns_all}
 use Rattle.weights.proofs.combined.combine_weights.Goals as goal
 
@@ -27,5 +29,7 @@ pub returns : goal.returns
 returns g c =
     let r = c.args.columns.row_variables in
     let n = length c.args.table.now in
-    columns_all g.L.Level.means g.L.Level.arithmetic r c.loop-column.column _ c.args.table.now c.loop-column.table c.requires
+    let m = g.L.Level.means in
+    let f = stepped g.L.Level.arithmetic r (m c.args.alpha) (lent m c.args.table.now) in
+    columns_all m g.L.Level.arithmetic r c.loop-column.column f c.args.table.now c.loop-column.table c.requires
     (subst (λ w. n / w ≤ c.loop-column.column) c.length-length.ensures c.loop-column-test.false) c.loop-column.invariant
