@@ -3,7 +3,7 @@ use Rattle.std.specs.Prelude.{ℕ, List, map, vec_items, Option}
 use Rattle.std.specs.Option.{option_map}
 use Rattle.level.specs.Element.{Element}
 use Rattle.multilinear.specs.Equality.{Point}
-use Rattle.ring_switch.specs.Opening.{View}
+use Rattle.ring_switch.specs.Opening.{View, Opening}
 use Rattle.problem.specs.declared.problem.Problem.{Problem}
 
 -- what is to be explained
@@ -14,6 +14,10 @@ pub record Task (k : ℕ) : Type 0 where
   pub batching : Option (Point k)
   pub challenge : Option (Element k)
   pub closings : List (Point k)
+
+-- the opening that is asked for
+abbrev pub asked : {k : ℕ} → Task k → Opening k
+asked t = record { point = t.point; view = t.view }
 
 abbrev pub task_of : {X : Type 0} {k : ℕ} → (X → Element k) → Problem X → Task k
 task_of means p = record {

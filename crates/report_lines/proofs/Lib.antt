@@ -1,7 +1,7 @@
 pub mod Passed
 pub mod Packed
-pub mod Batches
 pub mod Writing
 pub mod Stopping
+pub mod SameRows
 pub mod Reporting
 pub mod Answering

@@ -2,9 +2,11 @@
 use Rattle.std.proofs.Common.{◌≡◌, ℕ, zero, suc, ◌+◌, ◌-◌, ◌*◌, ◌/◌, ◌%◌, ◌^◌, ◌<◌, ◌≤◌, min, not, ltb, ◌⊎◌, None, sym, refl, ap, ◌∙◌, ap₂, inl, inr, le_trans, mul_assoc, mul-le-mul_left, pow-suc, mul-one, arith, lit≤, pow_pos, pow_mono}
 use lib.Count.{count_trailing_zeros, under}
 use lib.Pow.{pow-lt}
-use Rattle.std.proofs.lemmas.Nat.{pow-add, shl-shr, mul-le}
+use Rattle.std.proofs.lemmas.Nat.{pow-add, mul-le}
 use Rattle.std.proofs.lemmas.Bool.{ltb-false, not-false, cases_lt}
 use Rattle.element_text.specs.Hex.{shown_bytes}
+use Rattle.element_text.proofs.Shown.{shown_power}
+use Rattle.std.proofs.Math.Nat.{mul-div_cancel}
 use Rattle.refusals.specs.Steps.{told, packing, power_of_two}
 use Rattle.level.specs.Bytes.{num_bytes}
 use Rattle.refusals.proofs.Powers.{powers_of_two}
@@ -19,6 +21,11 @@ log_le a b h = below (cases_lt b a)
     below : (b < a) ⊎ (a ≤ b) → a ≤ b
     below (inl l) = let more : 1 + b ≤ a = omega arith in absurd (omega (arith, pow_mono more, pow-add 2 1 b))
     below (inr l) = l
+
+-- an element is shown by a byte at least
+pub some_shown : (k : ℕ) → 0 < shown_bytes k
+unfolding shown_bytes
+some_shown k = omega arith
 
 -- n bytes are 2^e cells, at least those of one element
 pub record Cells (k n : ℕ) : Type 0 where
@@ -65,10 +72,10 @@ module _ (k n : ℕ) (c : Cells k n) where
       ap (λ i. 2 ^ i) s ∙ pow-add 2 (c.log - k) ((k - 3) + 3) ∙ ap (λ m. 2 ^ (c.log - k) * m) (pow-add 2 (k - 3) 3) in
       let e : 8 * n ≡ 2 ^ (c.log - k) * 2 ^ (k - 3) * 8 = c.cells ∙ split ∙ sym (mul_assoc (2 ^ (c.log - k)) (2 ^ (k - 3)) 8) in
       let few : k - 3 ≡ min k 7 - 3 = omega (arith, c.narrow) in
-      omega (arith, e, ap (λ i. 2 ^ (c.log - k) * 2 ^ i) few)
+      omega (arith, e, ap (λ i. 2 ^ (c.log - k) * 2 ^ i) few, ap (λ s. 2 ^ (c.log - k) * s) (shown_power k))
 
   pub counted : (m : ℕ) → m ≡ n / shown_bytes k → m ≡ count
-  counted m e = e ∙ ap (λ i. i / shown_bytes k) whole ∙ shl-shr count (min k 7 - 3)
+  counted m e = e ∙ ap (λ i. i / shown_bytes k) whole ∙ mul-div_cancel count (some_shown k)
 
   pub some : (m : ℕ) → m ≡ n / shown_bytes k → 0 < m
   unfolding count
@@ -94,11 +101,11 @@ trailing_power (suc w) (suc v) h =
 
 module _ (k n v : ℕ) (p : Packs k n v) (small : n ≤ 2 ^ 24) where
   pub few : v ≤ 24
-  few = log_le v 24 (omega (arith, p.bytes, mul-le-mul_left (2 ^ v) (pow_pos (min k 7 - 3)), mul-one (2 ^ v)))
+  few = log_le v 24 (omega (arith, p.bytes, mul-le-mul_left (2 ^ v) (some_shown k), mul-one (2 ^ v)))
 
   pub variables_are : v ≡ variables_of k n
   variables_are =
-      sym (ap (λ m. count_trailing_zeros 64 (m / shown_bytes k)) p.bytes ∙ ap (count_trailing_zeros 64) (shl-shr (2 ^ v) (min k 7 - 3)) ∙ trailing_power 64 v (omega (arith, few)))
+      sym (ap (λ m. count_trailing_zeros 64 (m / shown_bytes k)) p.bytes ∙ ap (count_trailing_zeros 64) (mul-div_cancel (2 ^ v) (some_shown k)) ∙ trailing_power 64 v (omega (arith, few)))
 
   pub cells_few : 2 ^ v * 2 ^ k ≤ 2 ^ 64
   cells_few =

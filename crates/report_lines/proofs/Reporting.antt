@@ -1,16 +1,18 @@
 -- The text of a report, step by step.
 use Rattle.std.proofs.Common.{◌≡◌, ℕ, ◌^◌, Bool, List, ◌++◌, length, is_some, Some, None, Option, sym, ap, ◌∙◌, ap₂}
 use Rattle.std.proofs.lemmas.List.{append_assoc}
+use Rattle.level.specs.Element.{Element}
 use Rattle.level.specs.Laws.{Arithmetic}
 use Rattle.multilinear.specs.Cells.{cell}
-use Rattle.multilinear.specs.Equality.{Point}
-use Rattle.ring_switch.specs.Opening.{kept}
+use Rattle.multilinear.specs.Equality.{Point, equality}
+use Rattle.ring_switch.specs.Opening.{Opening, kept}
 use Rattle.refusals.specs.Refusals.{Refusal}
 use Rattle.refusals.specs.Steps.{told, packing, batching}
-use Rattle.problem.specs.Task.{Task}
+use Rattle.problem.specs.Task.{Task, asked}
 use Rattle.report_lines.specs.Opened.{Values, open_refusal, values_at}
-use Rattle.report_lines.specs.Batched.{Batching, batch_refusal, slot_batching}
+use Rattle.report_lines.specs.Batched.{batch_refusal, batching_with, batching_at}
 use Rattle.report_lines.specs.Report.{refusal_line, unless, lines_below, packed_line, variables_of, opening_text, batching_text, closing_text, batched_text, opened_text, report_text}
+use Rattle.report_lines.proofs.SameRows.{Agree, same_batching, same_closings}
 
 -- a step that is refused, and one that is not, whose lines and those after it come to the same
 module _ (o : Option Refusal) (a text : List ℕ) where
@@ -21,38 +23,45 @@ module _ (o : Option Refusal) (a text : List ℕ) where
   passed_step b x y e f h = ap (λ t. t ++ y) f ∙ append_assoc a x y ∙ ap (λ t. a ++ t) (sym h) ∙ ap (λ s. a ++ unless s text) e
 
 module _ {k : ℕ} (A : Arithmetic k) (t : Task k) (bits : List ℕ) (same_bits : bits ≡ t.bits) (a : List ℕ) where
-  module _ (point : Point k) (same_point : point ≡ t.point) where
+  module _ (o : Opening k) (same : o ≡ asked t) where
     module _ {X : Type 0} (p : Point k) (n : ℕ) (len : n ≡ length p) (α : Option X) (some : is_some α ≡ is_some t.challenge) where
-      same_refusal : batch_refusal k t.view α n ≡ batch_refusal k t.view t.challenge (length p)
-      same_refusal = ap₂ (λ (s : Bool) (m : ℕ). batching k (is_some (kept k t.view)) s m) some len
+      same_refusal : batch_refusal k o.view α n ≡ batch_refusal k t.view t.challenge (length p)
+      same_refusal =
+          ap (λ (q : Opening k). batch_refusal k q.view α n) same
+          ∙ ap₂ (λ (s : Bool) (m : ℕ). batching k (is_some (kept k t.view)) s m) some len
 
-      pub batching_refused : (r : Refusal) → Some r ≡ batch_refusal k t.view α n → a ++ refusal_line r.number ≡ a ++ batched_text A t (Some p)
+      pub batching_refused : (r : Refusal) → Some r ≡ batch_refusal k o.view α n → a ++ refusal_line r.number ≡ a ++ batched_text A t (Some p)
       unfolding batched_text
       batching_refused r e = refused_step _ a _ r (e ∙ same_refusal)
 
-      pub batching_passed : (b : List ℕ) (s : Batching k) → None ≡ batch_refusal k t.view α n → s ≡ slot_batching A (cell bits) point t.view p t.challenge
-          → b ≡ a ++ batching_text A s → b ++ closing_text A s t.closings ≡ a ++ batched_text A t (Some p)
+      -- batched with weights that agree with the equality table of the batching point
+      pub batching_passed : (b : List ℕ) (f : ℕ → Element k) → Agree f (equality A p) → None ≡ batch_refusal k o.view α n
+          → b ≡ a ++ batching_text A (batching_with A o (cell bits) f t.challenge)
+          → b ++ closing_text A (batching_with A o (cell bits) f t.challenge) t.closings ≡ a ++ batched_text A t (Some p)
       unfolding batched_text
-      batching_passed b s e f w =
+      batching_passed b f agree e w =
+          let s = batching_with A o (cell bits) f t.challenge in
           passed_step _ a _ b (batching_text A s) (closing_text A s t.closings) (e ∙ same_refusal) w
-          (ap (λ (x : Batching k). batching_text A x ++ closing_text A x t.closings)
-          (sym (f ∙ ap₂ (λ (l : List ℕ) (q : Point k). slot_batching A (cell l) q t.view p t.challenge) same_bits same_point)))
+          (sym (ap₂ (λ (x y : List ℕ). x ++ y) (same_batching A f (equality A p) agree o (cell bits) t.challenge)
+          (same_closings A f (equality A p) agree o (cell bits) t.challenge t.closings)
+          ∙ ap₂ (λ (q : Opening k) (l : List ℕ). let x = batching_at A q (cell l) p t.challenge in batching_text A x ++ closing_text A x t.closings) same same_bits))
 
     module _ (v n : ℕ) (variables : v ≡ variables_of k (length t.bits)) (len : n ≡ length t.point) where
       same_opening : open_refusal k v n t.view ≡ open_refusal k (variables_of k (length t.bits)) (length t.point) t.view
       same_opening = ap₂ (λ (u m : ℕ). open_refusal k u m t.view) variables len
 
-      pub opening_refused : (r : Refusal) → Some r ≡ open_refusal k v n t.view → a ++ refusal_line r.number ≡ a ++ opened_text A t
+      pub opening_passed : (b : List ℕ) (x : Values k) → None ≡ open_refusal k v n t.view → x ≡ values_at A o (cell bits)
+          → b ≡ a ++ opening_text x → b ++ batched_text A t t.batching ≡ a ++ opened_text A t
       unfolding opened_text
-      opening_refused r e = refused_step _ a _ r (e ∙ same_opening)
+      opening_passed b x e f w =
+          passed_step _ a _ b (opening_text x) (batched_text A t t.batching) (e ∙ same_opening) w
+          (ap (λ (y : Values k). opening_text y ++ batched_text A t t.batching)
+          (sym (f ∙ ap₂ (λ (q : Opening k) (l : List ℕ). values_at A q (cell l)) same same_bits)))
 
-      pub opening_passed : (b : List ℕ) (o : Values k) → None ≡ open_refusal k v n t.view → o ≡ values_at A (cell bits) point t.view
-          → b ≡ a ++ opening_text o → b ++ batched_text A t t.batching ≡ a ++ opened_text A t
-      unfolding opened_text
-      opening_passed b o e f w =
-          passed_step _ a _ b (opening_text o) (batched_text A t t.batching) (e ∙ same_opening) w
-          (ap (λ (x : Values k). opening_text x ++ batched_text A t t.batching)
-          (sym (f ∙ ap₂ (λ (l : List ℕ) (q : Point k). values_at A (cell l) q t.view) same_bits same_point)))
+  pub opening_refused : (v n : ℕ) → v ≡ variables_of k (length t.bits) → n ≡ length t.point → (r : Refusal) → Some r ≡ open_refusal k v n t.view
+      → a ++ refusal_line r.number ≡ a ++ opened_text A t
+  unfolding opened_text
+  opening_refused v n variables len r e = refused_step _ a _ r (e ∙ ap₂ (λ (u m : ℕ). open_refusal k u m t.view) variables len)
 
   same_packing : packing (told k) (length bits) ≡ packing (told k) (length t.bits)
   same_packing = ap (λ (l : List ℕ). packing (told k) (length l)) same_bits

@@ -1,14 +1,13 @@
 -- The values of an opening.
-use Rattle.std.specs.Prelude.{ℕ, ◌-◌, Some, None, Option}
+use Rattle.std.specs.Prelude.{ℕ, ◌-◌, Option}
 use Rattle.std.specs.Option.{option_map}
 use Rattle.level.specs.Element.{Element}
 use Rattle.level.specs.Laws.{Arithmetic}
-use Rattle.multilinear.specs.Cells.{standing, one_row_on}
-use Rattle.multilinear.specs.Equality.{Point, multilinear}
 use Rattle.ring_switch.specs.Opening as opening
+use Rattle.ring_switch.specs.ClaimLaws.{value, value_one_row_on}
 use Rattle.refusals.specs.Refusals.{Refusal}
 use Rattle.refusals.specs.Steps as step
-use Rattle.report_lines.specs.declared.opening.Opening.{Opening}
+use Rattle.report_lines.specs.declared.values.OpeningValues.{OpeningValues}
 
 -- opening 2^v packed elements at a point of n coordinates
 abbrev pub open_refusal : ℕ → ℕ → ℕ → opening.View → Option Refusal
@@ -22,16 +21,17 @@ pub record Values (k : ℕ) : Type 0 where
   -- how many leading coordinates select the slot, and its address
   pub prefix : opening.Prefix
 
-abbrev pub values_at : {k : ℕ} → Arithmetic k → (ℕ → ℕ) → Point k → opening.View → Values k
-values_at A bits p view = record {
-  incoming = multilinear A (λ c. standing A (bits c)) p;
-  successor = option_map (λ q. multilinear A (λ c. standing A (one_row_on q bits c)) p) view;
-  prefix = opening.prefix A p view;
+-- the values of an opening of a table of bits
+abbrev pub values_at : {k : ℕ} → Arithmetic k → opening.Opening k → (ℕ → ℕ) → Values k
+values_at A o bits = record {
+  incoming = value A o bits;
+  successor = option_map (λ q. value_one_row_on A o bits) o.view;
+  prefix = opening.prefix A o;
 }
 
-abbrev pub values_of : {X : Type 0} {k : ℕ} → (X → Element k) → Opening X → Values k
+abbrev pub values_of : {X : Type 0} {k : ℕ} → (X → Element k) → OpeningValues X → Values k
 values_of means o = record {
   incoming = means o.incoming;
   successor = option_map means o.successor;
-  prefix = record { count = o.prefix.count; address = o.prefix.address };
+  prefix = record { count = o.prefix.0; address = o.prefix.1 };
 }

@@ -4,14 +4,16 @@ use Rattle.std.specs.Int.Count.{count_trailing_zeros}
 use Rattle.level.specs.Laws.{Arithmetic}
 use Rattle.element_text.specs.Hex.{shown_bytes, element_text}
 use Rattle.multilinear.specs.Cells.{cell, packed}
-use Rattle.multilinear.specs.Equality.{Point, equality}
+use Rattle.multilinear.specs.Equality.{Point}
+use Rattle.ring_switch.specs.Opening.{kept_rows, rest}
+use Rattle.ring_switch.specs.Slots.{slot_table, slot_count}
 use Rattle.ring_switch.specs.Batching.{weight, closing_value}
 use Rattle.refusals.specs.Refusals.{Refusal, refusal_of}
 use Rattle.refusals.specs.Steps as step
-use Rattle.problem.specs.Task.{Task}
+use Rattle.problem.specs.Task.{Task, asked}
 use Rattle.report_lines.specs.Lines.{line, optional_text}
 use Rattle.report_lines.specs.Opened.{Values, open_refusal, values_at}
-use Rattle.report_lines.specs.Batched.{Batching, batch_refusal, slot_batching}
+use Rattle.report_lines.specs.Batched.{Batching, batch_refusal, batching_at}
 use Rattle.report_lines.specs.declared.stop.Stop.{Stop}
 use Rattle.report_lines.specs.declared.stop.Stop.TheVariants.{Refused, Memory}
 
@@ -41,29 +43,29 @@ opening_text v =
     ++ (line (codes "prefix") (decimal v.prefix.count) ++ line (codes "address") (decimal v.prefix.address)))
 
 abbrev pub weight_line : {k : ℕ} → Arithmetic k → Batching k → ℕ → List ℕ
-weight_line A b i = line (codes "weight") (element_text (weight A (equality A b.batching) b.slot b.stepping i))
+weight_line A b i = line (codes "weight") (element_text (weight A b.rows (slot_table A b.opening) (kept_rows b.opening) b.challenge i))
 
 unfoldable pub batching_text : {k : ℕ} → Arithmetic k → Batching k → List ℕ
-batching_text A b = line (codes "initial") (element_text b.initial) ++ lines_below (2 ^ length b.slot) (weight_line A b)
+batching_text A b = line (codes "initial") (element_text b.initial) ++ lines_below (slot_count A b.opening) (weight_line A b)
 
 abbrev pub closing_line : {k : ℕ} → Arithmetic k → Batching k → Point k → List ℕ
-closing_line A b z = line (codes "closing") (element_text (closing_value A (equality A b.batching) b.slot b.stepping z))
+closing_line A b z = line (codes "closing") (element_text (closing_value A b.rows (rest A b.opening) (kept_rows b.opening) b.challenge z))
 
 unfoldable pub closing_text : {k : ℕ} → Arithmetic k → Batching k → List (Point k) → List ℕ
 closing_text A b [] = []
-closing_text A b (z ∷ zs) = unless (step.closing (length b.slot) (length z)) (closing_line A b z ++ closing_text A b zs)
+closing_text A b (z ∷ zs) = unless (step.closing (length (rest A b.opening)) (length z)) (closing_line A b z ++ closing_text A b zs)
 
 -- with a batching point, the batching and the closing points
 unfoldable pub batched_text : {k : ℕ} → Arithmetic k → Task k → Option (Point k) → List ℕ
 batched_text A t None = []
 batched_text {k} A t (Some b) =
-    let batched = slot_batching A (cell t.bits) t.point t.view b t.challenge in
+    let batched = batching_at A (asked t) (cell t.bits) b t.challenge in
     unless (batch_refusal k t.view t.challenge (length b)) (batching_text A batched ++ closing_text A batched t.closings)
 
 unfoldable pub opened_text : {k : ℕ} → Arithmetic k → Task k → List ℕ
 opened_text {k} A t =
     unless (open_refusal k (variables_of k (length t.bits)) (length t.point) t.view)
-    (opening_text (values_at A (cell t.bits) t.point t.view) ++ batched_text A t t.batching)
+    (opening_text (values_at A (asked t) (cell t.bits)) ++ batched_text A t t.batching)
 
 unfoldable pub report_text : {k : ℕ} → Arithmetic k → Task k → List ℕ
 report_text {k} A t =

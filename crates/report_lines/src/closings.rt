@@ -1,8 +1,7 @@
-ghost use Rattle.std.specs.Prelude.{◌≡◌, ◌++◌, map, string_bytes};
-ghost use Rattle.std.specs.Fn.{AlwaysReturns};
+ghost use Rattle.std.specs.Prelude.{◌++◌, string_bytes};
 ghost use Rattle.report_lines.specs.Batched.{Batching};
-ghost use Rattle.report_lines.specs.Closings.{Closes};
-ghost use Rattle.report_lines.specs.Report.{closing_text, Reported};
+ghost use Rattle.report_lines.specs.Closings.{ClosesAll, closed_text};
+ghost use Rattle.report_lines.specs.Report.{Reported};
 
 use crate::lines::line;
 use crate::stop::Stop;
@@ -19,7 +18,7 @@ pub fn closing_lines<L: Level, F>(
 where
     F: FnMut(&[L]) -> Result<L, BitRingSwitchError>,
     requires { F.IsAlwaysCallable close }
-    ensures { (b : Batching L.Level.log) → AlwaysReturns F.FnMut (λ a r. Closes L.means L.arithmetic b a.0.now r) close → Reported result (string_bytes out.new) (string_bytes out.old ++ closing_text L.arithmetic b (map (λ v. map L.means v.items) closings.now)) }
+    ensures { (b : Batching L.Level.log) → ClosesAll L.Level b (λ a. a.0.now) F.FnMut close → Reported result (string_bytes out.new) (string_bytes out.old ++ closed_text L.Level b closings.now) }
 {
     for z in closings {
         line(out, "closing", Shown(close(z.as_slice())?))?;

@@ -5,7 +5,6 @@
 pub mod closings;
 pub mod finish;
 pub mod lines;
-pub mod opening;
-pub mod stepping;
 pub mod stop;
+pub mod values;
 pub mod variables;
