@@ -1,17 +1,19 @@
 // The steps over slices that know no layout.
-ghost use Rattle.std.specs.Prelude.{◌≡◌, ◌+◌, ◌-◌, ◌*◌, ◌%◌, ◌^◌, ◌<◌, ◌≤◌, map, length};
+ghost use Rattle.std.specs.Prelude.{◌≡◌, ℕ, ◌+◌, ◌-◌, ◌*◌, ◌%◌, ◌^◌, ◌<◌, ◌≤◌, map, length, take, drop};
 ghost use Rattle.level.specs.Element.{width};
 ghost use Rattle.multilinear.specs.Lent.{lent};
 ghost use Rattle.ring_switch.specs.Opening.{low, rest};
 ghost use Rattle.equality.specs.Tables.{Tabulated};
+ghost use Rattle.folding.specs.Openings.{SlotOpens};
 ghost use Rattle.reduction.specs.Layout.{outer_entries, inner_entries};
 ghost use Rattle.reduction.specs.Stretch.{Fits, opening_at as opening_of_point};
 ghost use Rattle.reduction.specs.Worked.{BeginFactors};
 
 use crate::opened::Opened;
 use crate::parts::{inner_entries, opening_at, outer_entries};
-use equality::factored::factor;
+use equality::factored::{FactoredEquality, factor};
 use equality::table::equality_table;
+use folding::slot_table::SlotTable;
 use level::level::Level;
 
 // Writes the factors of a point's equality table to the front of two slices.
@@ -42,6 +44,48 @@ pub(crate) fn slot_factors<L: Level>(
 {
     let reduction = opening_at(point, opened);
     factors_into(outers, inners, reduction.rest());
+}
+
+// The slot that starts at a place of the packed elements, over the factors of its equality table.
+fn slot_of<'a, L: Level>(
+    packed: &'a [L],
+    start: usize,
+    outer: &'a [L],
+    inner: &'a [L],
+) -> SlotTable<'a, L>
+    requires narrow { L.Level.log ≤ 7 }
+    requires block { (e : ℕ) × (length inner.now ≡ 2 ^ e) }
+    requires within { start + length outer.now * length inner.now ≤ length packed.now }
+    ensures outer { result.equality.outer.now ≡ outer.now }
+    ensures inner { result.equality.inner.now ≡ inner.now }
+    ensures values { result.values.now ≡ take (length outer.now * length inner.now) (drop start packed.now) }
+{
+    SlotTable::of_packed(packed, start, FactoredEquality::new(outer, inner))
+}
+
+// The factors of the slot of an opening, at the front of two slices, and the slot of the packed elements over them.
+fn slot_at<'a, L: Level>(
+    packed: &'a [L],
+    point: &[L],
+    opened: Opened,
+    outers: &'a [L],
+    inners: &'a [L],
+) -> SlotTable<'a, L>
+    requires narrow { L.Level.log ≤ 7 }
+    requires few { opened.variables < 64 }
+    requires fits { Fits L.Level opened point.now }
+    requires packed { length packed.now ≡ 2 ^ (opened.variables - L.Level.log) }
+    requires factors { BeginFactors L.means L.arithmetic (rest L.arithmetic (opening_of_point L.Level opened point.now)) outers.now inners.now }
+    ensures { SlotOpens L.Level result (opening_of_point L.Level opened point.now) (lent L.means packed.now) }
+{
+    let reduction = opening_at(point, opened);
+    let variables = reduction.rest().len();
+    slot_of(
+        packed,
+        reduction.slot_start(),
+        &outers[..outer_entries(variables)],
+        &inners[..inner_entries(variables)],
+    )
 }
 
 // Writes the equality table of the coordinates that a packed element absorbs.
