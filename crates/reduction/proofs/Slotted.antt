@@ -1,11 +1,12 @@
 -- The slot of an opening, from the factors of its equality table at the front of two slices.
-use Rattle.std.proofs.Common.{◌≡◌, ℕ, ◌+◌, ◌-◌, ◌*◌, ◌^◌, ◌≤◌, List, map, length, take, drop, sym, ap, ◌∙◌, refl, subst, subst₂, arith}
+use Rattle.std.proofs.Common.{◌≡◌, ℕ, ◌+◌, ◌-◌, ◌*◌, ◌^◌, ◌≤◌, List, map, length, take, drop, sym, ap, ◌∙◌, refl, subst, subst₂, arith, length-drop, pow_mono}
 use lib.ListN.{length-map}
 use Rattle.level.specs.Element.{Element}
 use Rattle.level.specs.Laws.{Arithmetic, Laws}
 use Rattle.level.specs.declared.level.Level.{Ghosts}
+use Rattle.multilinear.specs.Equality.{inner, inner_count}
 use Rattle.multilinear.specs.Lent.{lent}
-use Rattle.ring_switch.specs.Opening.{Opening, rest, slot_start}
+use Rattle.ring_switch.specs.Opening.{Opening, variables, rest, slot_start}
 use Rattle.ring_switch.specs.Slots.{packed_count}
 use Rattle.ring_switch.proofs.SlotTensors.{slot}
 use Rattle.equality.specs.Tables.{Factors}
@@ -56,3 +57,12 @@ module _ {X : Type 0} (L : Ghosts X) (laws : Laws L.arithmetic) (o : Opening L.l
         start_is = begins;
         factors = subst₂ (λ xs ys. Factors L.means L.arithmetic L.arithmetic.unit (rest L.arithmetic o) xs ys) (sym eo) (sym ei) slot_factors;
       })
+
+-- the inner factor has no more entries than there are packed elements
+pub inner_short : {X : Type 0} (L : Ghosts X) → Laws L.arithmetic → (s : SlotTable X L) (o : Opening L.log) (t : ℕ → Element L.log) → SlotOpens L s o t
+    → length s.equality.inner.now ≤ packed_count o
+inner_short L laws s o t opens =
+    let r = rest L.arithmetic o in
+    let e : length (inner r) ≤ variables o = omega (arith, length-drop (length r - inner_count (length r)) r, (slot laws o).coordinates) in
+    let p : 2 ^ length (inner r) ≤ 2 ^ variables o = pow_mono e in
+    omega (arith, p, opens.factors.inner_table.size)

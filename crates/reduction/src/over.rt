@@ -1,5 +1,6 @@
 // The steps over slices that know no layout.
 ghost use Rattle.std.specs.Prelude.{◌≡◌, ℕ, ◌+◌, ◌-◌, ◌*◌, ◌%◌, ◌^◌, ◌<◌, ◌≤◌, map, length, take, drop};
+ghost use Rattle.level.specs.Bytes.{num_bytes};
 ghost use Rattle.level.specs.Element.{width};
 ghost use Rattle.multilinear.specs.Lent.{lent};
 ghost use Rattle.ring_switch.specs.Opening.{low, rest};
@@ -7,7 +8,7 @@ ghost use Rattle.equality.specs.Tables.{Tabulated};
 ghost use Rattle.folding.specs.Openings.{SlotOpens};
 ghost use Rattle.reduction.specs.Layout.{outer_entries, inner_entries};
 ghost use Rattle.reduction.specs.Stretch.{Fits, opening_at as opening_of_point};
-ghost use Rattle.reduction.specs.Worked.{BeginFactors};
+ghost use Rattle.reduction.specs.Worked.{BeginFactors, tensor_at, carry_at, last_at};
 
 use crate::opened::Opened;
 use crate::parts::{inner_entries, opening_at, outer_entries};
@@ -86,6 +87,76 @@ fn slot_at<'a, L: Level>(
         &outers[..outer_entries(variables)],
         &inners[..inner_entries(variables)],
     )
+}
+
+// Folds the tensor of the packed elements at an opening, from the factors of its slot.
+pub(crate) fn fold_tensor<L: Level>(
+    packed: &[L],
+    point: &[L],
+    opened: Opened,
+    outers: &[L],
+    inners: &[L],
+    rows: &mut [L],
+    scratch: &mut [L],
+)
+    requires narrow { L.Level.log ≤ 7 }
+    requires few { opened.variables < 64 }
+    requires fits { Fits L.Level opened point.now }
+    requires packed { length packed.now ≡ 2 ^ (opened.variables - L.Level.log) }
+    requires factors { BeginFactors L.means L.arithmetic (rest L.arithmetic (opening_of_point L.Level opened point.now)) outers.now inners.now }
+    requires rows { length rows.old ≡ width L.Level.log }
+    requires scratch { length scratch.old ≡ 256 * num_bytes L.Level.log + width L.Level.log }
+    ensures { lent L.means rows.new ≡ tensor_at L.arithmetic (opening_of_point L.Level opened point.now) (lent L.means packed.now) }
+{
+    slot_at(packed, point, opened, outers, inners).tensor(rows, scratch);
+}
+
+// Folds the carry over the columns of an opening's row variables. `shifted` has room for the inner factor.
+pub(crate) fn fold_carry<L: Level>(
+    packed: &[L],
+    point: &[L],
+    opened: Opened,
+    outers: &[L],
+    inners: &[L],
+    rows: &mut [L],
+    shifted: &mut [L],
+    scratch: &mut [L],
+)
+    requires narrow { L.Level.log ≤ 7 }
+    requires few { opened.variables < 64 }
+    requires fits { Fits L.Level opened point.now }
+    requires packed { length packed.now ≡ 2 ^ (opened.variables - L.Level.log) }
+    requires factors { BeginFactors L.means L.arithmetic (rest L.arithmetic (opening_of_point L.Level opened point.now)) outers.now inners.now }
+    requires rows { length rows.old ≡ width L.Level.log }
+    requires shifted { 2 ^ (opened.variables - L.Level.log) ≤ length shifted.old }
+    requires scratch { length scratch.old ≡ 256 * num_bytes L.Level.log + width L.Level.log }
+    ensures { lent L.means rows.new ≡ carry_at L.arithmetic (opening_of_point L.Level opened point.now) (lent L.means packed.now) }
+{
+    let columns = opening_at(point, opened).columns();
+    let slot = slot_at(packed, point, opened, outers, inners);
+    let (shifted, _) = shifted.split_at_mut(slot.equality.block_len());
+    slot.carry(columns, shifted, rows, scratch);
+}
+
+// Folds the last over the same columns.
+pub(crate) fn fold_last<L: Level>(
+    packed: &[L],
+    point: &[L],
+    opened: Opened,
+    outers: &[L],
+    inners: &[L],
+    rows: &mut [L],
+)
+    requires narrow { L.Level.log ≤ 7 }
+    requires few { opened.variables < 64 }
+    requires fits { Fits L.Level opened point.now }
+    requires packed { length packed.now ≡ 2 ^ (opened.variables - L.Level.log) }
+    requires factors { BeginFactors L.means L.arithmetic (rest L.arithmetic (opening_of_point L.Level opened point.now)) outers.now inners.now }
+    requires rows { length rows.old ≡ width L.Level.log }
+    ensures { lent L.means rows.new ≡ last_at L.arithmetic (opening_of_point L.Level opened point.now) (lent L.means packed.now) }
+{
+    let columns = opening_at(point, opened).columns();
+    slot_at(packed, point, opened, outers, inners).last(columns, rows);
 }
 
 // Writes the equality table of the coordinates that a packed element absorbs.
