@@ -88,6 +88,10 @@ BadText k at text Memory = Unit {0}
 abbrev pub BadAmong : ℕ → Key → List (List ℕ) → ProblemFault → Type 0
 BadAmong k at ts f = (i : ℕ) × (i < length ts) × BadText k at (slice_index_or ts i []) f
 
+-- the same of a text that there may be
+abbrev pub BadOptional : ℕ → Key → Option (List ℕ) → ProblemFault → Type 0
+BadOptional k at o f = BadAmong k at (option_to_list o) f
+
 -- why an input is refused: it has closing points without a batching point, or a text of some key is refused
 abbrev pub BadProblem : ℕ → Parts → ProblemFault → Type 0
 BadProblem k parts f =

@@ -3,11 +3,11 @@ ghost use Rattle.element_lists.specs.Bytes.{BytesOf};
 ghost use Rattle.element_lists.specs.Elements.{ElementsOf};
 ghost use Rattle.explain_input.specs.Inputs.{parts_of};
 ghost use Rattle.explain_input.specs.declared.key.Key.TheVariants as named;
-ghost use Rattle.problem.specs.Reading.{most_bytes, OptionalPoint, OptionalElement, EachPoint, unbatched, of_elements, wants_memory, Asks, BadText, BadAmong, BadProblem, RefusedAskNothing, TaskDetermined};
+ghost use Rattle.problem.specs.Reading.{most_bytes, OptionalPoint, OptionalElement, EachPoint, unbatched, of_elements, wants_memory, Asks, BadText, BadAmong, BadOptional, BadProblem, RefusedAskNothing, TaskDetermined};
 ghost use Rattle.problem.specs.Task.{task_of};
 ghost use Rattle.problem.specs.declared.reading.ProblemFault.TheVariants.{Bits, Memory};
 ghost use Rattle.problem.specs.Messages.{problem_message};
-ghost use Rattle.std.specs.Option.{option_map, option_to_list};
+ghost use Rattle.std.specs.Option.{option_map};
 
 use crate::problem::Problem;
 use element_lists::bytes::{BytesFault, parse_hex_bytes};
@@ -122,7 +122,7 @@ fn read_batching<L: Level>(
     heap: Global,
     text: Option<&[u8]>,
 ) -> Result<Option<Vec<L>>, ProblemFault>
-    ensures { MatchResult result (λ o. OptionalPoint (option_map (λ x. x.now) text.entry) (option_map (λ v. map L.means v.items) o)) (BadAmong L.Level.log named.Batching (option_to_list (option_map (λ x. x.now) text.entry))) }
+    ensures { let given = option_map (λ x. x.now) text.entry in MatchResult result (λ o. OptionalPoint given (option_map (λ v. map L.means v.items) o)) (BadOptional L.Level.log named.Batching given) }
 {
     match text {
         Some(text) => Ok(Some(read_elements(heap, Key::Batching, text)?)),
@@ -143,7 +143,7 @@ fn read_element<L: Level>(heap: Global, text: &[u8]) -> Result<L, ProblemFault>
 
 // The challenge, where there is one.
 fn read_challenge<L: Level>(heap: Global, text: Option<&[u8]>) -> Result<Option<L>, ProblemFault>
-    ensures { MatchResult result (λ o. OptionalElement (option_map (λ x. x.now) text.entry) (option_map L.means o)) (BadAmong L.Level.log named.Challenge (option_to_list (option_map (λ x. x.now) text.entry))) }
+    ensures { let given = option_map (λ x. x.now) text.entry in MatchResult result (λ o. OptionalElement given (option_map L.means o)) (BadOptional L.Level.log named.Challenge given) }
 {
     match text {
         Some(text) => Ok(Some(read_element(heap, text)?)),

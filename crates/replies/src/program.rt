@@ -1,7 +1,6 @@
 ghost use Rattle.std.specs.Prelude.{◌≡◌, ◌<◌, ◌∷◌, [], List, ℕ, Result, IfOk, IfSome, MatchOption, OnOk, length, string_bytes};
-ghost use Rattle.std.specs.Io.KnownBytes.{Appends};
 ghost use Rattle.report_lines.specs.Replies.{Reply};
-ghost use Rattle.replies.specs.Answering.{GivesReplies};
+ghost use Rattle.replies.specs.Answering.{GivesReplies, AppendsOne};
 ghost use Rattle.replies.specs.Cases.{cases, Replies};
 
 use std::alloc::{AllocError, Global};
@@ -14,7 +13,7 @@ where
     W: Write,
     F: Fn(Global, &[u8]) -> Result<String, AllocError>,
     requires { F.IsAlwaysCallable reply.now }
-    ensures { GivesReplies (F.post reply.now) → OnOk result ((written : List ℕ) × Reply text.now written × Appends (W.contents writer.old) (W.contents writer.new) written) }
+    ensures { GivesReplies (F.post reply.now) → OnOk result (AppendsOne (Reply text.now) (W.contents writer.old) (W.contents writer.new)) }
 {
     let written = reply(heap, text)?;
     writer.write_all(written.as_bytes())
@@ -27,7 +26,7 @@ where
     W: Write,
     F: Fn(Global, &[u8]) -> Result<String, AllocError>,
     requires { F.IsAlwaysCallable reply }
-    ensures { GivesReplies (F.post reply) → OnOk result (IfSome (R.remaining reader.old) (λ text. (written : List ℕ) × Reply text written × Appends (W.contents writer.old) (W.contents writer.new) written)) }
+    ensures { GivesReplies (F.post reply) → OnOk result (IfSome (R.remaining reader.old) (λ text. AppendsOne (Reply text) (W.contents writer.old) (W.contents writer.new))) }
 {
     let mut input = Vec::new(heap);
     reader.read_to_end(&mut input)?;
@@ -63,7 +62,7 @@ where
     W: Write,
     F: Fn(Global, &[u8]) -> Result<String, AllocError>,
     requires { F.IsAlwaysCallable reply }
-    ensures { GivesReplies (F.post reply) → OnOk result (IfSome (R.remaining reader.old) (λ text. (written : List ℕ) × Replies (cases text) written × Appends (W.contents writer.old) (W.contents writer.new) written)) }
+    ensures { GivesReplies (F.post reply) → OnOk result (IfSome (R.remaining reader.old) (λ text. AppendsOne (Replies (cases text)) (W.contents writer.old) (W.contents writer.new))) }
 {
     let mut input = Vec::new(heap);
     reader.read_to_end(&mut input)?;
