@@ -62,7 +62,7 @@ pub mod poly {
             Poly::new(F::zero_vec(1 << num_variables))
         }
 
-        // Entry i is `start` times, for each coordinate, the coordinate where its bit of i is 1, and one plus it where that bit is 0.
+        // Entry i: `start`, times x for each coordinate x with its digit of i set, and times 1 + x for each other.
         pub fn new_from_point(point: &[F], start: F) -> Self {
             let mut evals = vec![start];
             for &x in point {
