@@ -1,6 +1,7 @@
 -- The slot of an opening, from the factors of its equality table at the front of two slices.
-use Rattle.std.proofs.Common.{◌≡◌, ℕ, ◌+◌, ◌-◌, ◌*◌, ◌^◌, ◌≤◌, List, map, length, take, drop, sym, ap, ◌∙◌, refl, subst, subst₂, arith, length-drop, pow_mono}
+use Rattle.std.proofs.Common.{◌≡◌, ℕ, ◌+◌, ◌-◌, ◌*◌, ◌^◌, ◌≤◌, List, map, ◌++◌, length, take, drop, sym, ap, ◌∙◌, refl, subst, subst₂, arith, length-drop, pow_mono}
 use lib.ListN.{length-map}
+use Rattle.std.proofs.lemmas.List.{take-take}
 use Rattle.level.specs.Element.{Element}
 use Rattle.level.specs.Laws.{Arithmetic, Laws}
 use Rattle.level.specs.declared.level.Level.{Ghosts}
@@ -15,10 +16,12 @@ use Rattle.folding.specs.Openings.{SlotOpens}
 use Rattle.folding.proofs.Openings.{size_is, cut_opens}
 use Rattle.opening.specs.declared.bit_ring_switch.BitRingSwitch.{BitRingSwitch}
 use Rattle.opening.specs.Openings.{opening_of}
-use Rattle.reduction.specs.Layout.{outer_entries, inner_entries}
+use Rattle.reduction.specs.Layout.{part, most, outer_start, inner_start, tensor_start, outer_entries, inner_entries}
 use Rattle.reduction.specs.Stretch.{opening_at}
-use Rattle.reduction.specs.Worked.{BeginFactors}
+use Rattle.reduction.specs.Worked.{BeginFactors, SlotFactors}
 use Rattle.reduction.specs.declared.opened.Opened.{Opened}
+use Rattle.reduction.proofs.Cut.{first, second, part_kept}
+use Rattle.reduction.proofs.Fitting.{outer_fits, inner_fits}
 
 -- the opening that was made at a point with these numbers
 pub made_at : {X : Type 0} (L : Ghosts X) (s : BitRingSwitch X L) (o : Opened) (xs : List X) → s.point.now ≡ xs → s.view ≡ o.view → opening_of L s ≡ opening_at L o xs
@@ -66,3 +69,35 @@ inner_short L laws s o t opens =
     let e : length (inner r) ≤ variables o = omega (arith, length-drop (length r - inner_count (length r)) r, (slot laws o).coordinates) in
     let p : 2 ^ length (inner r) ≤ 2 ^ variables o = pow_mono e in
     omega (arith, p, opens.factors.inner_table.size)
+
+-- the factors stand at their places of a stretch that is put together
+pub factors_stand : {X : Type 0} (L : Ghosts X) → Laws L.arithmetic → (c : ℕ) (o : Opening L.log) (h os is t : List X) → variables o ≤ c - L.log
+    → length h ≡ outer_start L.log c → length os ≡ most L.log c → length is ≡ most L.log c
+    → BeginFactors L.means L.arithmetic (rest L.arithmetic o) os is → SlotFactors L c (rest L.arithmetic o) (h ++ (os ++ (is ++ t)))
+factors_stand L laws c o h os is t within eh eo ei factors =
+    let r = rest L.arithmetic o in
+    let l : length r ≤ c - L.log = omega (arith, within, (slot laws o).coordinates) in
+    subst₂ (λ xs ys. Factors L.means L.arithmetic L.arithmetic.unit r xs ys)
+    (sym (first (outer_start L.log c) (outer_entries (length r)) h eh os (is ++ t) (omega (arith, outer_fits L.log c (length r) l, eo))))
+    (sym (second (outer_start L.log c) (most L.log c) (inner_entries (length r)) h os is t eh eo (omega (arith, inner_fits L.log c (length r) l, ei)))) factors
+
+-- and the other way round, at the front of what was read there
+pub factors_begin : {X : Type 0} (L : Ghosts X) → Laws L.arithmetic → (c : ℕ) (o : Opening L.log) (memory os is : List X) → variables o ≤ c - L.log
+    → os ≡ part (outer_start L.log c) (most L.log c) memory → is ≡ part (inner_start L.log c) (most L.log c) memory
+    → SlotFactors L c (rest L.arithmetic o) memory → BeginFactors L.means L.arithmetic (rest L.arithmetic o) os is
+factors_begin L laws c o memory os is within eo ei factors =
+    let r = rest L.arithmetic o in
+    let l : length r ≤ c - L.log = omega (arith, within, (slot laws o).coordinates) in
+    subst₂ (λ xs ys. Factors L.means L.arithmetic L.arithmetic.unit r xs ys)
+    (sym (ap (take (outer_entries (length r))) eo ∙ take-take (outer_entries (length r)) (most L.log c) (drop (outer_start L.log c) memory) (outer_fits L.log c (length r) l)))
+    (sym (ap (take (inner_entries (length r))) ei ∙ take-take (inner_entries (length r)) (most L.log c) (drop (inner_start L.log c) memory) (inner_fits L.log c (length r) l))) factors
+
+-- factors that stand below a start that is kept stand there still
+pub factors_kept : {X : Type 0} (L : Ghosts X) → Laws L.arithmetic → (c : ℕ) (o : Opening L.log) (b : ℕ) (xs ys : List X) → variables o ≤ c - L.log
+    → tensor_start L.log c ≤ b → take b xs ≡ take b ys → SlotFactors L c (rest L.arithmetic o) xs → SlotFactors L c (rest L.arithmetic o) ys
+factors_kept L laws c o b xs ys within h e factors =
+    let r = rest L.arithmetic o in
+    let l : length r ≤ c - L.log = omega (arith, within, (slot laws o).coordinates) in
+    subst₂ (λ os is. Factors L.means L.arithmetic L.arithmetic.unit r os is)
+    (part_kept (outer_start L.log c) (outer_entries (length r)) b xs ys e (omega (arith, outer_fits L.log c (length r) l, h)))
+    (part_kept (inner_start L.log c) (inner_entries (length r)) b xs ys e (omega (arith, inner_fits L.log c (length r) l, h))) factors

@@ -1,16 +1,19 @@
 ghost use Rattle.std.specs.Prelude.{◌≡◌, ◌≤◌, length, take};
+ghost use Rattle.multilinear.specs.Lent.{lent};
 ghost use Rattle.level.specs.Element.{width};
-ghost use Rattle.ring_switch.specs.Opening.{low};
+ghost use Rattle.ring_switch.specs.Opening.{low, rest};
 ghost use Rattle.equality.specs.Tables.{Tabulated};
 ghost use Rattle.opening.specs.Openings.{opening_of};
-ghost use Rattle.reduction.specs.Layout.{part, point_start, low_start, layout_end};
-ghost use Rattle.reduction.specs.Stretch.{Stands, point_in, opening_in};
+ghost use Rattle.reduction.specs.Layout.{part, point_start, outer_start, tensor_start, low_start, layout_end};
+ghost use Rattle.reduction.specs.Worked.{SlotFactors, tensor_at};
+ghost use Rattle.reduction.specs.Stretch.{Stands, point_in, opening_in, rows_in};
 
 use crate::layout::Layout;
 use crate::opened::Opened;
-use crate::over::low_table;
-use crate::parts::point_in as point_of;
+use crate::over::{fold_tensor, low_table, slot_factors};
+use crate::parts::{packed_in, point_in as point_of};
 use coordinates::width;
+use folding::block::scratch_len;
 use level::level::Level;
 use opening::bit_ring_switch::BitRingSwitch;
 
@@ -36,6 +39,26 @@ pub fn open<L: Level>(
         view: reduction.view,
         prefix: reduction.prefix,
     }
+}
+
+// Forms the factors of the slot's equality table, and the tensor.
+fn work_tensor<L: Level>(memory: &mut [L], layout: Layout<L>, opened: Opened)
+    requires room { layout_end L.Level.log layout.variables ≤ length memory.old }
+    requires stands { Stands L.Level layout.variables opened memory.old }
+    ensures before { take (outer_start L.Level.log layout.variables) memory.new ≡ take (outer_start L.Level.log layout.variables) memory.old }
+    ensures factors { SlotFactors L.Level layout.variables (rest L.arithmetic (opening_in L.Level layout.variables opened memory.old)) memory.new }
+    ensures tensor { rows_in L.Level (tensor_start L.Level.log layout.variables) memory.new ≡ tensor_at L.arithmetic (opening_in L.Level layout.variables opened memory.old) (lent L.means memory.old) }
+{
+    let most = layout.most();
+    let (held, rest) = memory.split_at_mut(layout.outer_start());
+    let (outers, rest) = rest.split_at_mut(most);
+    let (inners, rest) = rest.split_at_mut(most);
+    let (rows, scratch) = rest.split_at_mut(width::<L>());
+    let packed = packed_in(held, opened.variables);
+    let point = point_of(held, layout, opened.variables);
+    let scratch = &mut scratch[..scratch_len::<L>()];
+    slot_factors(point, opened, outers, inners);
+    fold_tensor(packed, point, opened, outers, inners, rows, scratch);
 }
 
 // Writes the equality table of the coordinates that a packed element absorbs.
