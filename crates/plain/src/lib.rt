@@ -1,5 +1,5 @@
 // The values of the reduction, each computed straight from its definition: no tensors and no tables.
-// They are what the fast code is held to, and serve small tables as they are.
+// The program `explain` prints them; they serve small tables as they are.
 #![tactic(auto)]
 
 pub mod batching;
