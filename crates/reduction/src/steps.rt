@@ -1,17 +1,17 @@
-ghost use Rattle.std.specs.Prelude.{◌≡◌, ◌≤◌, length, take};
+ghost use Rattle.std.specs.Prelude.{◌≡◌, ◌<◌, ◌≤◌, length, take};
 ghost use Rattle.multilinear.specs.Lent.{lent};
 ghost use Rattle.level.specs.Element.{width};
-ghost use Rattle.ring_switch.specs.Opening.{low, rest};
+ghost use Rattle.ring_switch.specs.Opening.{named, low, rest};
 ghost use Rattle.equality.specs.Tables.{Tabulated};
 ghost use Rattle.opening.specs.Openings.{opening_of};
-ghost use Rattle.reduction.specs.Layout.{part, point_start, outer_start, tensor_start, low_start, layout_end};
-ghost use Rattle.reduction.specs.Worked.{SlotFactors, tensor_at};
+ghost use Rattle.reduction.specs.Layout.{part, point_start, outer_start, tensor_start, carry_start, last_start, low_start, layout_end};
+ghost use Rattle.reduction.specs.Worked.{Worked, SlotFactors, tensor_at, carry_at, last_at};
 ghost use Rattle.reduction.specs.Stretch.{Stands, point_in, opening_in, rows_in};
 
 use crate::layout::Layout;
 use crate::opened::Opened;
-use crate::over::{fold_tensor, low_table, slot_factors};
-use crate::parts::{packed_in, point_in as point_of};
+use crate::over::{fold_carry, fold_last, fold_tensor, low_table, slot_factors};
+use crate::parts::{factors_in, packed_in, point_in as point_of};
 use coordinates::width;
 use folding::block::scratch_len;
 use level::level::Level;
@@ -61,6 +61,45 @@ fn work_tensor<L: Level>(memory: &mut [L], layout: Layout<L>, opened: Opened)
     fold_tensor(packed, point, opened, outers, inners, rows, scratch);
 }
 
+// Forms the carry and the last, over the columns of the row variables that the packing keeps.
+fn work_successor<L: Level>(memory: &mut [L], layout: Layout<L>, opened: Opened)
+    requires room { layout_end L.Level.log layout.variables ≤ length memory.old }
+    requires stands { Stands L.Level layout.variables opened memory.old }
+    requires factors { SlotFactors L.Level layout.variables (rest L.arithmetic (opening_in L.Level layout.variables opened memory.old)) memory.old }
+    ensures before { take (carry_start L.Level.log layout.variables) memory.new ≡ take (carry_start L.Level.log layout.variables) memory.old }
+    ensures carry { rows_in L.Level (carry_start L.Level.log layout.variables) memory.new ≡ carry_at L.arithmetic (opening_in L.Level layout.variables opened memory.old) (lent L.means memory.old) }
+    ensures last { rows_in L.Level (last_start L.Level.log layout.variables) memory.new ≡ last_at L.arithmetic (opening_in L.Level layout.variables opened memory.old) (lent L.means memory.old) }
+{
+    let width = width::<L>();
+    let (held, rest) = memory.split_at_mut(layout.carry_start());
+    let (carry, rest) = rest.split_at_mut(width);
+    let (last, rest) = rest.split_at_mut(width);
+    let (shifted, scratch) = rest.split_at_mut(layout.most());
+    let packed = packed_in(held, opened.variables);
+    let point = point_of(held, layout, opened.variables);
+    let (outers, inners) = factors_in(held, layout);
+    let scratch = &mut scratch[..scratch_len::<L>()];
+    fold_carry(
+        packed, point, opened, outers, inners, carry, shifted, scratch,
+    );
+    fold_last(packed, point, opened, outers, inners, last);
+}
+
+// Forms the carry and the last where rows are longer than one element.
+fn work_sent<L: Level>(memory: &mut [L], layout: Layout<L>, opened: Opened)
+    requires room { layout_end L.Level.log layout.variables ≤ length memory.old }
+    requires stands { Stands L.Level layout.variables opened memory.old }
+    requires factors { SlotFactors L.Level layout.variables (rest L.arithmetic (opening_in L.Level layout.variables opened memory.old)) memory.old }
+    ensures before { take (carry_start L.Level.log layout.variables) memory.new ≡ take (carry_start L.Level.log layout.variables) memory.old }
+    ensures carry { L.Level.log < named opened.view → rows_in L.Level (carry_start L.Level.log layout.variables) memory.new ≡ carry_at L.arithmetic (opening_in L.Level layout.variables opened memory.old) (lent L.means memory.old) }
+    ensures last { L.Level.log < named opened.view → rows_in L.Level (last_start L.Level.log layout.variables) memory.new ≡ last_at L.arithmetic (opening_in L.Level layout.variables opened memory.old) (lent L.means memory.old) }
+{
+    let absorbed = usize::from(L::log_width());
+    if opened.view.unwrap_or(0) > absorbed {
+        work_successor(memory, layout, opened);
+    }
+}
+
 // Writes the equality table of the coordinates that a packed element absorbs.
 fn work_low<L: Level>(memory: &mut [L], layout: Layout<L>, opened: Opened)
     requires room { layout_end L.Level.log layout.variables ≤ length memory.old }
@@ -71,4 +110,17 @@ fn work_low<L: Level>(memory: &mut [L], layout: Layout<L>, opened: Opened)
     let (held, rest) = memory.split_at_mut(layout.low_start());
     let (table, _) = rest.split_at_mut(width::<L>());
     low_table(point_of(held, layout, opened.variables), opened, table);
+}
+
+// Forms the tables and tensors of the opening that the stretch holds, of the packed elements that it holds.
+pub fn work<L: Level>(memory: &mut [L], layout: Layout<L>, opened: Opened)
+    requires room { layout_end L.Level.log layout.variables ≤ length memory.old }
+    requires stands { Stands L.Level layout.variables opened memory.old }
+    ensures before { take (outer_start L.Level.log layout.variables) memory.new ≡ take (outer_start L.Level.log layout.variables) memory.old }
+    ensures stands { Stands L.Level layout.variables opened memory.new }
+    ensures worked { Worked L.Level layout.variables opened memory.new }
+{
+    work_tensor(memory, layout, opened);
+    work_sent(memory, layout, opened);
+    work_low(memory, layout, opened);
 }
