@@ -12,11 +12,10 @@ ghost use Rattle.reduction.specs.Worked.{successor_in, initial_in, weight_at, we
 
 use crate::layout::Layout;
 use crate::opened::Opened;
-use crate::parts::{opening_at, part_at, point_in, rows_at, slot_entries};
+use crate::parts::{batch_at, opening_at, part_at, point_in, rows_at, slot_entries};
 use coordinates::per_coordinate::PerCoordinate;
 use coordinates::width;
 use level::level::Level;
-use opening::batch::BitRingSwitchBatch;
 use tensor::successor_tensors::SuccessorTensors;
 
 // The sum of a tensor's columns against a table, the columns gathered in a scratch.
@@ -98,30 +97,6 @@ pub fn successor_claim<L: Level>(memory: &mut [L], layout: Layout<L>, rows: usiz
         columns,
         &mut scratch[..width],
     )
-}
-
-// The batching of an opening at a point with these numbers.
-fn batch_at<'a, L: Level>(
-    point: &'a [L],
-    opened: Opened,
-    eq_batch: &'a [L],
-    alpha: Option<L>,
-) -> BitRingSwitchBatch<'a, L>
-    requires narrow { L.Level.log ≤ 7 }
-    requires few { opened.variables < 64 }
-    requires fits { Fits L.Level opened point.now }
-    requires table { length eq_batch.now ≡ width L.Level.log }
-    requires challenged { is_some alpha ≡ is_some (kept L.Level.log opened.view) }
-    ensures point { result.reduction.point.now ≡ point.now }
-    ensures view { result.reduction.view ≡ opened.view }
-    ensures table { result.eq_batch.elements.now ≡ eq_batch.now }
-    ensures alpha { result.alpha ≡ alpha }
-{
-    BitRingSwitchBatch {
-        reduction: opening_at(point, opened),
-        eq_batch: PerCoordinate { elements: eq_batch },
-        alpha,
-    }
 }
 
 // The initial sum of the tensors that the stretch holds, under a challenge exactly where the carry and the last are sent.

@@ -1,21 +1,24 @@
 // The steps over slices that know no layout.
-ghost use Rattle.std.specs.Prelude.{◌≡◌, ℕ, ◌+◌, ◌-◌, ◌*◌, ◌%◌, ◌^◌, ◌<◌, ◌≤◌, map, length, take, drop};
+ghost use Rattle.std.specs.Prelude.{◌≡◌, ℕ, ◌+◌, ◌-◌, ◌*◌, ◌%◌, ◌^◌, ◌<◌, ◌≤◌, map, length, take, drop, is_some};
+ghost use Rattle.std.specs.Option.{option_map};
 ghost use Rattle.level.specs.Bytes.{num_bytes};
 ghost use Rattle.level.specs.Element.{width};
 ghost use Rattle.multilinear.specs.Lent.{lent};
-ghost use Rattle.ring_switch.specs.Opening.{low, rest};
+ghost use Rattle.ring_switch.specs.Opening.{kept, low, rest};
+ghost use Rattle.ring_switch.specs.Slots.{slot_count};
 ghost use Rattle.equality.specs.Tables.{Tabulated};
 ghost use Rattle.folding.specs.Openings.{SlotOpens};
 ghost use Rattle.reduction.specs.Layout.{outer_entries, inner_entries};
 ghost use Rattle.reduction.specs.Stretch.{Fits, opening_at as opening_of_point};
-ghost use Rattle.reduction.specs.Worked.{BeginFactors, tensor_at, carry_at, last_at};
+ghost use Rattle.reduction.specs.Worked.{BeginFactors, weight_at, tensor_at, carry_at, last_at};
 
 use crate::opened::Opened;
-use crate::parts::{inner_entries, opening_at, outer_entries};
+use crate::parts::{batch_at, inner_entries, opening_at, outer_entries, slot_entries};
 use equality::factored::{FactoredEquality, factor};
 use equality::table::equality_table;
 use folding::slot_table::SlotTable;
 use level::level::Level;
+use weights::weights::weights_over;
 
 // Writes the factors of a point's equality table to the front of two slices.
 fn factors_into<L: Level>(outers: &mut [L], inners: &mut [L], point: &[L])
@@ -169,4 +172,35 @@ pub(crate) fn low_table<L: Level>(point: &[L], opened: Opened, table: &mut [L])
 {
     let reduction = opening_at(point, opened);
     equality_table(table, reduction.low(), L::one());
+}
+
+// Writes the weights of the slot of an opening to the front of a slice, from the factors of its equality table and the batching table.
+pub(crate) fn slot_weights<L: Level>(
+    point: &[L],
+    opened: Opened,
+    table: &[L],
+    alpha: Option<L>,
+    outers: &[L],
+    inners: &[L],
+    weights: &mut [L],
+    scratch: &mut [L],
+)
+    requires narrow { L.Level.log ≤ 7 }
+    requires few { opened.variables < 64 }
+    requires fits { Fits L.Level opened point.now }
+    requires table { length table.now ≡ width L.Level.log }
+    requires challenged { is_some alpha ≡ is_some (kept L.Level.log opened.view) }
+    requires factors { BeginFactors L.means L.arithmetic (rest L.arithmetic (opening_of_point L.Level opened point.now)) outers.now inners.now }
+    requires weights { 2 ^ (opened.variables - L.Level.log) ≤ length weights.old }
+    requires scratch { length scratch.old ≡ 512 * num_bytes L.Level.log }
+    ensures { (i : ℕ) → i < slot_count L.arithmetic (opening_of_point L.Level opened point.now) → lent L.means weights.new i ≡ weight_at L.Level opened point.now (lent L.means table.now) (option_map L.means alpha) i }
+{
+    let batch = batch_at(point, opened, table, alpha);
+    let variables = batch.reduction.rest().len();
+    let equality = FactoredEquality::new(
+        &outers[..outer_entries(variables)],
+        &inners[..inner_entries(variables)],
+    );
+    let (weights, _) = weights.split_at_mut(slot_entries(&batch.reduction));
+    weights_over(weights, &equality, &batch, scratch);
 }

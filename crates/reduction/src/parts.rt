@@ -1,16 +1,19 @@
 // Parts of a stretch, read.
-ghost use Rattle.std.specs.Prelude.{◌≡◌, ◌+◌, ◌-◌, ◌*◌, ◌^◌, ◌<◌, ◌≤◌, length};
+ghost use Rattle.std.specs.Prelude.{◌≡◌, ◌+◌, ◌-◌, ◌*◌, ◌^◌, ◌<◌, ◌≤◌, length, is_some};
 ghost use Rattle.level.specs.Element.{width};
 ghost use Rattle.reduction.specs.Layout.{part, most, point_start, batching_start, outer_start, inner_start, tensor_start, outer_entries, inner_entries};
+ghost use Rattle.ring_switch.specs.Opening.{kept};
 ghost use Rattle.ring_switch.specs.Slots.{slot_count};
 ghost use Rattle.opening.specs.Openings.{opening_of};
 ghost use Rattle.reduction.specs.Stretch.{Fits};
 
 use crate::layout::Layout;
 use crate::opened::Opened;
+use coordinates::per_coordinate::PerCoordinate;
 use coordinates::width;
 use equality::factored::{inner_variables, outer_variables};
 use level::level::Level;
+use opening::batch::BitRingSwitchBatch;
 use opening::bit_ring_switch::BitRingSwitch;
 
 // How many entries the outer factor of the equality table of l coordinates has.
@@ -114,4 +117,28 @@ pub(crate) fn slot_entries<L: Level>(reduction: &BitRingSwitch<'_, L>) -> usize
     ensures within { result ≤ 2 ^ (length reduction.now.point.now - L.Level.log) }
 {
     1 << reduction.rest().len()
+}
+
+// The batching of an opening at a point with these numbers.
+pub(crate) fn batch_at<'a, L: Level>(
+    point: &'a [L],
+    opened: Opened,
+    eq_batch: &'a [L],
+    alpha: Option<L>,
+) -> BitRingSwitchBatch<'a, L>
+    requires narrow { L.Level.log ≤ 7 }
+    requires few { opened.variables < 64 }
+    requires fits { Fits L.Level opened point.now }
+    requires table { length eq_batch.now ≡ width L.Level.log }
+    requires challenged { is_some alpha ≡ is_some (kept L.Level.log opened.view) }
+    ensures point { result.reduction.point.now ≡ point.now }
+    ensures view { result.reduction.view ≡ opened.view }
+    ensures table { result.eq_batch.elements.now ≡ eq_batch.now }
+    ensures alpha { result.alpha ≡ alpha }
+{
+    BitRingSwitchBatch {
+        reduction: opening_at(point, opened),
+        eq_batch: PerCoordinate { elements: eq_batch },
+        alpha,
+    }
 }
