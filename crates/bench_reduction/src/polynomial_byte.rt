@@ -1,26 +1,19 @@
 // The operations at the polynomial byte.
-ghost use Rattle.std.specs.Prelude.{◌≡◌, ℕ, ◌-◌, ◌*◌, ◌/◌, ◌%◌, ◌^◌, ◌<◌, ◌≤◌, not, map, length, Some as some, None as none};
-ghost use Rattle.level.specs.Element.{Element};
-ghost use Rattle.multilinear.specs.Equality.{Point, entry, inner_count};
+ghost use Rattle.std.specs.Prelude.{◌≡◌, ℕ, ◌+◌, ◌-◌, ◌*◌, ◌/◌, ◌%◌, ◌^◌, ◌<◌, ◌≤◌, map, length, Some as some, None as none};
+ghost use Rattle.multilinear.specs.Equality.{inner_count};
 ghost use Rattle.multilinear.specs.Lent.{lent};
-ghost use Rattle.multilinear.specs.Sums.{where_set};
 ghost use Rattle.tensor_algebra.specs.Tensor.{nothing};
-ghost use Rattle.ring_switch.specs.Claims.{tensor as tensor_of, carry as carry_of, last as last_of};
-ghost use Rattle.multilinear.specs.Columns.{starts};
-ghost use Rattle.ring_switch.specs.Batching.{weight};
 ghost use Rattle.packing.specs.Packing.{Packed};
 ghost use Rattle.equality.specs.Tables.{Factors};
+ghost use Rattle.folding.specs.Folds.{shifted as shifted_of};
+ghost use Rattle.bench_reduction.specs.Answers.{PowerOfTwo, tensor_over, carry_over, last_over, weight_over};
 ghost use Rattle.byte_levels.specs.contracts.polynomial_byte.PolynomialByteLevel.TheImpl.{ghosts as of};
 
+use crate::operations;
 use byte_levels::polynomial_byte::PolynomialByte;
-use columns::Columns;
-use coordinates::per_coordinate::PerCoordinate;
-use equality::factored::{FactoredEquality, factor};
-use folding::slot_table::SlotTable;
+use equality::factored::factor;
 use level::level::Level;
 use packing::pack_elements;
-use plain::stepping::Stepping;
-use weights::weights::weights_over;
 
 #[unsafe(no_mangle)]
 pub extern "C" fn pack_polynomial_byte(bits: &[u8], elements: &mut [PolynomialByte]) -> usize
@@ -46,25 +39,25 @@ pub extern "C" fn factor_polynomial_byte(
 
 #[unsafe(no_mangle)]
 pub extern "C" fn tensor_polynomial_byte<'a>(
-    values: &[PolynomialByte],
+    values: &'a [PolynomialByte],
     outer: &'a [PolynomialByte],
     inner: &'a [PolynomialByte],
     rows: &mut [PolynomialByte],
     scratch: &mut [PolynomialByte],
 )
+    requires block { PowerOfTwo (length inner.now) }
     requires values { length values.now ≡ length outer.now * length inner.now }
     requires rows { length rows.old ≡ 8 }
     requires scratch { length scratch.old ≡ 264 }
-    ensures rows { (s : Element 3) (p : Point 3) → Factors of.means of.arithmetic s p outer.now inner.now → lent of.means rows.new ≡ tensor_of (2 ^ length p) (entry of.arithmetic s p) (lent of.means values.now) }
+    ensures rows { lent of.means rows.new ≡ tensor_over of outer.now inner.now values.now }
     ensures scratch { lent of.means scratch.new ≡ nothing }
 {
-    let equality = FactoredEquality { outer, inner };
-    SlotTable { values, equality }.tensor(rows, scratch);
+    operations::tensor(values, outer, inner, rows, scratch);
 }
 
 #[unsafe(no_mangle)]
 pub extern "C" fn carry_polynomial_byte<'a>(
-    values: &[PolynomialByte],
+    values: &'a [PolynomialByte],
     outer: &'a [PolynomialByte],
     inner: &'a [PolynomialByte],
     kept: usize,
@@ -73,35 +66,34 @@ pub extern "C" fn carry_polynomial_byte<'a>(
     scratch: &mut [PolynomialByte],
 )
     requires short { kept < 64 }
+    requires block { PowerOfTwo (length inner.now) }
     requires values { length values.now ≡ length outer.now * length inner.now }
     requires shifted { length shifted.old ≡ length inner.now }
     requires rows { length rows.old ≡ 8 }
     requires scratch { length scratch.old ≡ 264 }
-    ensures rows { (s : Element 3) (p : Point 3) → Factors of.means of.arithmetic s p outer.now inner.now → lent of.means rows.new ≡ carry_of kept (2 ^ length p) (entry of.arithmetic s p) (lent of.means values.now) }
-    ensures shifted { (j : ℕ) → j < length inner.now → lent of.means shifted.new j ≡ where_set (not (starts kept j)) (lent of.means inner.now (j - 1)) }
+    ensures rows { lent of.means rows.new ≡ carry_over of outer.now inner.now values.now kept }
+    ensures shifted { (j : ℕ) → j < length inner.now → lent of.means shifted.new j ≡ shifted_of kept (lent of.means inner.now) j }
     ensures scratch { lent of.means scratch.new ≡ nothing }
 {
-    let equality = FactoredEquality { outer, inner };
-    let columns = Columns::new(kept);
-    SlotTable { values, equality }.carry(columns, shifted, rows, scratch);
+    operations::carry(values, outer, inner, kept, shifted, rows, scratch);
 }
 
 #[unsafe(no_mangle)]
 pub extern "C" fn last_polynomial_byte<'a>(
-    values: &[PolynomialByte],
+    values: &'a [PolynomialByte],
     outer: &'a [PolynomialByte],
     inner: &'a [PolynomialByte],
     kept: usize,
     rows: &mut [PolynomialByte],
 )
     requires short { kept < 64 }
-    requires columns { length values.now % 2 ^ kept ≡ 0 }
+    requires block { PowerOfTwo (length inner.now) }
     requires values { length values.now ≡ length outer.now * length inner.now }
+    requires columns { length values.now % 2 ^ kept ≡ 0 }
     requires rows { length rows.old ≡ 8 }
-    ensures { (s : Element 3) (p : Point 3) → Factors of.means of.arithmetic s p outer.now inner.now → lent of.means rows.new ≡ last_of kept (2 ^ length p) (entry of.arithmetic s p) (lent of.means values.now) }
+    ensures { lent of.means rows.new ≡ last_over of outer.now inner.now values.now kept }
 {
-    let equality = FactoredEquality { outer, inner };
-    SlotTable { values, equality }.last(Columns::new(kept), rows);
+    operations::last(values, outer, inner, kept, rows);
 }
 
 #[unsafe(no_mangle)]
@@ -109,22 +101,19 @@ pub extern "C" fn weights_polynomial_byte<'a>(
     table: &mut [PolynomialByte],
     outer: &'a [PolynomialByte],
     inner: &'a [PolynomialByte],
-    eq_batch: &[PolynomialByte],
+    point: &'a [PolynomialByte],
+    eq_batch: &'a [PolynomialByte],
     scratch: &mut [PolynomialByte],
 )
+    requires block { PowerOfTwo (length inner.now) }
     requires table { length table.old ≡ length outer.now * length inner.now }
+    requires point { (3 ≤ length point.now) × (length point.now < 64) }
     requires batching { length eq_batch.now ≡ 8 }
     requires scratch { length scratch.old ≡ 512 }
-    ensures weights { (p : Point 3) → Factors of.means of.arithmetic of.arithmetic.unit p outer.now inner.now → (i : ℕ) → i < 2 ^ length p → lent of.means table.new i ≡ weight of.arithmetic (lent of.means eq_batch.now) p none i }
+    ensures weights { (i : ℕ) → i < length table.old → lent of.means table.new i ≡ weight_over of outer.now inner.now eq_batch.now 0 none i }
     ensures scratch { lent of.means scratch.new ≡ nothing }
 {
-    weights_over(
-        table,
-        &FactoredEquality { outer, inner },
-        PerCoordinate { elements: eq_batch },
-        None,
-        scratch,
-    );
+    operations::weights(table, outer, inner, point, eq_batch, scratch);
 }
 
 #[unsafe(no_mangle)]
@@ -132,27 +121,23 @@ pub extern "C" fn challenged_weights_polynomial_byte<'a>(
     table: &mut [PolynomialByte],
     outer: &'a [PolynomialByte],
     inner: &'a [PolynomialByte],
-    eq_batch: &[PolynomialByte],
+    point: &'a [PolynomialByte],
+    eq_batch: &'a [PolynomialByte],
     kept: usize,
     challenge: &PolynomialByte,
     scratch: &mut [PolynomialByte],
 )
-    requires short { kept < 64 }
+    requires sent { 0 < kept }
+    requires block { PowerOfTwo (length inner.now) }
     requires table { length table.old ≡ length outer.now * length inner.now }
+    requires columns { length table.old % 2 ^ kept ≡ 0 }
+    requires point { (kept + 3 ≤ length point.now) × (length point.now < 64) }
     requires batching { length eq_batch.now ≡ 8 }
     requires scratch { length scratch.old ≡ 512 }
-    ensures weights { (p : Point 3) → Factors of.means of.arithmetic of.arithmetic.unit p outer.now inner.now → (i : ℕ) → i < 2 ^ length p → lent of.means table.new i ≡ weight of.arithmetic (lent of.means eq_batch.now) p (some (record { rows = kept; challenge = of.means challenge.now })) i }
+    ensures weights { (i : ℕ) → i < length table.old → lent of.means table.new i ≡ weight_over of outer.now inner.now eq_batch.now kept (some (of.means challenge.now)) i }
     ensures scratch { lent of.means scratch.new ≡ nothing }
 {
-    let stepping = Some(Stepping {
-        rows: kept,
-        challenge: *challenge,
-    });
-    weights_over(
-        table,
-        &FactoredEquality { outer, inner },
-        PerCoordinate { elements: eq_batch },
-        stepping,
-        scratch,
+    operations::challenged_weights(
+        table, outer, inner, point, eq_batch, kept, *challenge, scratch,
     );
 }
