@@ -72,7 +72,7 @@ module _ {k : ℕ} {A : Arithmetic k} (laws : Laws A) (f : ℕ → Element k) wh
       ∙ ap (λ q. A.times α (plus (zeros k) q)) (times_zeros laws α) ∙ ap (A.times α) (plus_zeros _) ∙ times_zeros laws α)
 
 -- where rows are longer than an element
-sends : (k : ℕ) (view : View) → is_some (kept k view) ≡ true → k < named view
+pub sends : (k : ℕ) (view : View) → is_some (kept k view) ≡ true → k < named view
 unfolding kept
 sends k None e = absurd (cc)
 sends k (Some q) e = ⊎_elim (λ l. ltb-true k q l) (λ s. absurd (no s)) (cases_Bool (ltb k q))
@@ -81,7 +81,7 @@ sends k (Some q) e = ⊎_elim (λ l. ltb-true k q l) (λ s. absurd (no s)) (case
     no s = cc
 
 -- without a challenge the initial sum looks at the tensor alone
-initial_same : {k : ℕ} (A : Arithmetic k) (f : ℕ → Element k) (α : Option (Element k)) (t c l t' c' l' : Tensor k) → t ≡ t'
+pub initial_same : {k : ℕ} (A : Arithmetic k) (f : ℕ → Element k) (α : Option (Element k)) (t c l t' c' l' : Tensor k) → t ≡ t'
     → (is_some α ≡ true → c ≡ c') → (is_some α ≡ true → l ≡ l') → initial_sum A f α t c l ≡ initial_sum A f α t' c' l'
 unfolding initial_sum
 initial_same A f None t c l t' c' l' e carried lasting = ap (batch_rows A f) e

@@ -1,3 +1,4 @@
 pub mod Layout
 pub mod Stretch
 pub mod Worked
+pub mod AnswerLaws

@@ -3,6 +3,7 @@ use Rattle.std.specs.Prelude.{◌≡◌, ℕ, ◌<◌, List, map, take, length, 
 use Rattle.level.specs.Element.{Element, width}
 use Rattle.level.specs.Laws.{Arithmetic}
 use Rattle.level.specs.declared.level.Level.{Ghosts}
+use Rattle.multilinear.specs.Cells.{packed}
 use Rattle.multilinear.specs.Equality.{Point}
 use Rattle.multilinear.specs.Lent.{lent}
 use Rattle.tensor_algebra.specs.Tensor.{Tensor}
@@ -75,3 +76,7 @@ module _ {X : Type 0} (L : Ghosts X) (c : ℕ) where
   pub record Batched (o : Opened) (α : Option (Element L.log)) (xs : List X) : Type 0 where
     pub table_is : Tabulated L.means L.arithmetic L.arithmetic.unit (batching_in xs) (part (table_start L.log c) (width L.log) xs)
     pub weights_are : (i : ℕ) → i < slot_count L.arithmetic (opening_in L c o xs) → lent L.means (weights_in o xs) i ≡ weight_in o α xs i
+
+  -- the packed elements that the stretch holds are those of a table of bits
+  abbrev pub Packs : Opened → (ℕ → ℕ) → List X → Type 0
+  Packs o bits xs = (w : ℕ) → w < packed_count (opening_in L c o xs) → lent L.means xs w ≡ packed L.log bits w

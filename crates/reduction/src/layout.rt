@@ -64,49 +64,49 @@ impl<L: Level> Layout<L> {
     }
 
     // Where the point stands, behind the packed elements.
-    pub fn point_start(&self) -> usize
+    pub(crate) fn point_start(&self) -> usize
         ensures { result ≡ point_start L.Level.log self.now.variables }
     {
         self.most()
     }
 
     // Where the factors of the slot's equality table stand.
-    pub fn outer_start(&self) -> usize
+    pub(crate) fn outer_start(&self) -> usize
         ensures { result ≡ outer_start L.Level.log self.now.variables }
     {
         self.point_start() + self.variables
     }
 
     // Where the tensor stands.
-    pub fn tensor_start(&self) -> usize
+    pub(crate) fn tensor_start(&self) -> usize
         ensures { result ≡ tensor_start L.Level.log self.now.variables }
     {
         self.outer_start() + 2 * self.most()
     }
 
     // Where the carry stands, and behind it the last.
-    pub fn carry_start(&self) -> usize
+    pub(crate) fn carry_start(&self) -> usize
         ensures { result ≡ carry_start L.Level.log self.now.variables }
     {
         self.tensor_start() + width::<L>()
     }
 
     // Where the equality table of the absorbed coordinates stands.
-    pub fn low_start(&self) -> usize
+    pub(crate) fn low_start(&self) -> usize
         ensures { result ≡ low_start L.Level.log self.now.variables }
     {
         self.carry_start() + 2 * width::<L>()
     }
 
     // Where the batching point stands, and behind it its equality table.
-    pub fn batching_start(&self) -> usize
+    pub(crate) fn batching_start(&self) -> usize
         ensures { result ≡ batching_start L.Level.log self.now.variables }
     {
         self.low_start() + width::<L>()
     }
 
     // Where the weights stand.
-    pub fn weights_start(&self) -> usize
+    pub(crate) fn weights_start(&self) -> usize
         ensures { result ≡ weights_start L.Level.log self.now.variables }
     {
         self.batching_start() + 2 * width::<L>()
@@ -120,7 +120,7 @@ impl<L: Level> Layout<L> {
     }
 
     // Where scratch begins.
-    pub fn scratch_start(&self) -> usize
+    pub(crate) fn scratch_start(&self) -> usize
         ensures { result ≡ scratch_start L.Level.log self.now.variables }
     {
         self.spare_start() + self.most()

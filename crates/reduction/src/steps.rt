@@ -1,21 +1,24 @@
-ghost use Rattle.std.specs.Prelude.{◌≡◌, ◌<◌, ◌≤◌, length, take};
+ghost use Rattle.std.specs.Prelude.{◌≡◌, ◌<◌, ◌≤◌, map, length, take, is_some};
+ghost use Rattle.std.specs.Option.{option_map};
 ghost use Rattle.multilinear.specs.Lent.{lent};
 ghost use Rattle.level.specs.Element.{width};
-ghost use Rattle.ring_switch.specs.Opening.{named, low, rest};
+ghost use Rattle.ring_switch.specs.Opening.{named, kept, low, rest};
 ghost use Rattle.equality.specs.Tables.{Tabulated};
 ghost use Rattle.opening.specs.Openings.{opening_of};
-ghost use Rattle.reduction.specs.Layout.{part, point_start, outer_start, tensor_start, carry_start, last_start, low_start, layout_end};
-ghost use Rattle.reduction.specs.Worked.{Worked, SlotFactors, tensor_at, carry_at, last_at};
+ghost use Rattle.reduction.specs.Layout.{part, point_start, outer_start, tensor_start, carry_start, last_start, low_start, batching_start, layout_end};
+ghost use Rattle.reduction.specs.Worked.{Worked, Batched, batching_in, SlotFactors, tensor_at, carry_at, last_at};
 ghost use Rattle.reduction.specs.Stretch.{Stands, point_in, opening_in, rows_in};
 
 use crate::layout::Layout;
 use crate::opened::Opened;
-use crate::over::{fold_carry, fold_last, fold_tensor, low_table, slot_factors};
+use crate::over::{fold_carry, fold_last, fold_tensor, low_table, slot_factors, slot_weights};
 use crate::parts::{factors_in, packed_in, point_in as point_of};
 use coordinates::width;
+use equality::table::equality_table;
 use folding::block::scratch_len;
 use level::level::Level;
 use opening::bit_ring_switch::BitRingSwitch;
+use weights::settled::scratch_len as weights_scratch_len;
 
 // Puts an opening into the stretch: its point is copied to its place.
 pub fn open<L: Level>(
@@ -123,4 +126,40 @@ pub fn work<L: Level>(memory: &mut [L], layout: Layout<L>, opened: Opened)
     work_tensor(memory, layout, opened);
     work_sent(memory, layout, opened);
     work_low(memory, layout, opened);
+}
+
+// Puts a batching into the stretch: copies its point, and forms its equality table and the weights of the slot. There is a challenge exactly
+// where the carry and the last are sent.
+pub fn batch<L: Level>(
+    memory: &mut [L],
+    layout: Layout<L>,
+    opened: Opened,
+    batching: &[L],
+    alpha: Option<L>,
+)
+    requires room { layout_end L.Level.log layout.variables ≤ length memory.old }
+    requires stands { Stands L.Level layout.variables opened memory.old }
+    requires worked { Worked L.Level layout.variables opened memory.old }
+    requires batching { length batching.now ≡ L.Level.log }
+    requires challenged { is_some alpha ≡ is_some (kept L.Level.log opened.view) }
+    ensures before { take (batching_start L.Level.log layout.variables) memory.new ≡ take (batching_start L.Level.log layout.variables) memory.old }
+    ensures stands { Stands L.Level layout.variables opened memory.new }
+    ensures worked { Worked L.Level layout.variables opened memory.new }
+    ensures point { batching_in L.Level layout.variables memory.new ≡ map L.means batching.now }
+    ensures batched { Batched L.Level layout.variables opened (option_map L.means alpha) memory.new }
+{
+    let width = width::<L>();
+    let (held, rest) = memory.split_at_mut(layout.batching_start());
+    let (place, rest) = rest.split_at_mut(width);
+    let (table, rest) = rest.split_at_mut(width);
+    let (weights, scratch) = rest.split_at_mut(layout.most());
+    let point = point_of(held, layout, opened.variables);
+    let (outers, inners) = factors_in(held, layout);
+    let (scratch, _) = scratch.split_at_mut(weights_scratch_len::<L>());
+    let (place, _) = place.split_at_mut(batching.len());
+    place.copy_from_slice(batching);
+    equality_table(table, batching, L::one());
+    slot_weights(
+        point, opened, table, alpha, outers, inners, weights, scratch,
+    );
 }
