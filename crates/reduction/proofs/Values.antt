@@ -10,7 +10,7 @@ use Rattle.multilinear.specs.Equality.{equality}
 use Rattle.multilinear.specs.Lent.{lent}
 use Rattle.multilinear.specs.Sums.{sum}
 use Rattle.ring_switch.specs.Opening.{Opening, named, kept, kept_rows, low}
-use Rattle.ring_switch.specs.Claims.{tensor, carry, last, incoming}
+use Rattle.ring_switch.specs.Claims.{tensor, carry, last}
 use Rattle.ring_switch.specs.ClaimLaws.{Binary, opened, opened_carry, opened_last, value, value_one_row_on}
 use Rattle.ring_switch.specs.Slots.{packed_count, table, slot_table, slot_count, in_slot}
 use Rattle.ring_switch.proofs.SlotPrefix.{low_length}
@@ -23,7 +23,7 @@ use Rattle.folding.proofs.Openings.{tensor_same, carry_same, last_same}
 use Rattle.reduction.specs.Layout.{part, tensor_start, carry_start, last_start, low_start, batching_start, table_start, layout_end}
 use Rattle.reduction.proofs.Fitting.{below_power}
 use Rattle.reduction.specs.Stretch.{Stands, opening_in, rows_in}
-use Rattle.reduction.specs.Worked.{Worked, Packs, Batched, successor_in, initial_in, weight_in, batching_in}
+use Rattle.reduction.specs.Worked.{Worked, Packs, Batched, incoming_in, successor_in, initial_in, weight_in, batching_in}
 use Rattle.reduction.specs.AnswerLaws.{Opens, weight_by_point}
 use Rattle.reduction.specs.declared.opened.Opened.{Opened}
 
@@ -62,7 +62,7 @@ module _ {X : Type 0} (L : Ghosts X) (laws : Laws L.arithmetic) (c : ℕ) (o : O
   lows : (v : ℕ) → v < width L.log → rows_in L (low_start L.log c) xs v ≡ equality L.arithmetic (low (opening_in L c o xs)) v
   lows v h = w.low_is.entries v (subst (λ n. v < 2 ^ n) (sym (low_length at absorbs)) h)
 
-  pub incoming_value : incoming L.arithmetic (rows_in L (low_start L.log c) xs) (rows_in L (tensor_start L.log c) xs) ≡ value L.arithmetic (opening_in L c o xs) bits
+  pub incoming_value : incoming_in L c xs ≡ value L.arithmetic (opening_in L c o xs) bits
   incoming_value = incoming_opened laws at bits opens.binary absorbs (rows_in L (low_start L.log c) xs) lows (rows_in L (tensor_start L.log c) xs) tensor_opened
 
   pub successor_value : successor_in L c (named o.view) xs ≡ value_one_row_on L.arithmetic (opening_in L c o xs) bits

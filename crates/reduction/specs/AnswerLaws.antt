@@ -6,13 +6,12 @@ use Rattle.multilinear.specs.Cells.{packed}
 use Rattle.multilinear.specs.Equality.{equality}
 use Rattle.multilinear.specs.Sums.{sum}
 use Rattle.ring_switch.specs.Opening.{named, kept, kept_rows}
-use Rattle.ring_switch.specs.Claims.{incoming}
 use Rattle.ring_switch.specs.ClaimLaws.{Binary, value, value_one_row_on}
 use Rattle.ring_switch.specs.Slots.{slot_table, slot_count, in_slot}
 use Rattle.ring_switch.specs.Batching.{weight}
-use Rattle.reduction.specs.Layout.{tensor_start, low_start, layout_end}
-use Rattle.reduction.specs.Stretch.{Stands, opening_in, rows_in}
-use Rattle.reduction.specs.Worked.{Worked, Packs, Batched, successor_in, initial_in, weight_in, batching_in}
+use Rattle.reduction.specs.Layout.{layout_end}
+use Rattle.reduction.specs.Stretch.{Stands, opening_in}
+use Rattle.reduction.specs.Worked.{Worked, Packs, Batched, incoming_in, successor_in, initial_in, weight_in, batching_in}
 use Rattle.reduction.specs.declared.opened.Opened.{Opened}
 
 module _ {X : Type 0} (L : Ghosts X) where
@@ -32,7 +31,7 @@ module _ {X : Type 0} (L : Ghosts X) where
   pub record AnswersStand : Type 0 where
     -- the incoming claim is the multilinear value of the bits at the point
     pub incoming_is : (c : ℕ) (o : Opened) (bits : ℕ → ℕ) (xs : List X) → Opens c o bits xs
-        → incoming L.arithmetic (rows_in L (low_start L.log c) xs) (rows_in L (tensor_start L.log c) xs) ≡ value L.arithmetic (opening_in L c o xs) bits
+        → incoming_in L c xs ≡ value L.arithmetic (opening_in L c o xs) bits
     -- the successor claim that of the bits one row on
     pub successor_is : (c : ℕ) (o : Opened) (bits : ℕ → ℕ) (xs : List X) → Opens c o bits xs
         → successor_in L c (named o.view) xs ≡ value_one_row_on L.arithmetic (opening_in L c o xs) bits

@@ -8,7 +8,7 @@ use Rattle.multilinear.specs.Equality.{Point}
 use Rattle.multilinear.specs.Lent.{lent}
 use Rattle.tensor_algebra.specs.Tensor.{Tensor}
 use Rattle.ring_switch.specs.Opening.{Opening, named, low, rest, kept_rows}
-use Rattle.ring_switch.specs.Claims.{tensor, carry, last, successor_claim}
+use Rattle.ring_switch.specs.Claims.{tensor, carry, last, incoming, successor_claim}
 use Rattle.ring_switch.specs.Slots.{packed_count, table, slot_table, slot_count}
 use Rattle.ring_switch.specs.Batching.{weight, initial_sum}
 use Rattle.equality.specs.Tables.{Tabulated, Factors}
@@ -34,6 +34,10 @@ last_at A o t = last (kept_rows o) (packed_count o) (table A o) t
 abbrev pub weight_at : {X : Type 0} (L : Ghosts X) → Opened → List X → (ℕ → Element L.log) → Option (Element L.log) → ℕ → Element L.log
 weight_at L o xs f α = let p = opening_at L o xs in weight L.arithmetic f (slot_table L.arithmetic p) (kept_rows p) α
 
+-- a slice begins with them
+abbrev pub BeginWeights : {X : Type 0} (L : Ghosts X) → Opened → List X → (ℕ → Element L.log) → Option (Element L.log) → List X → Type 0
+BeginWeights L o xs f α weights = (i : ℕ) → i < slot_count L.arithmetic (opening_at L o xs) → lent L.means weights i ≡ weight_at L o xs f α i
+
 module _ {X : Type 0} (L : Ghosts X) (c : ℕ) where
   -- the places of the factors begin with those of a slot's equality table
   abbrev pub SlotFactors : Point L.log → List X → Type 0
@@ -41,13 +45,31 @@ module _ {X : Type 0} (L : Ghosts X) (c : ℕ) where
       Factors L.means L.arithmetic L.arithmetic.unit slot (part (outer_start L.log c) (outer_entries (length slot)) xs)
       (part (inner_start L.log c) (inner_entries (length slot)) xs)
 
+  -- the equality table of the coordinates that an element absorbs stands in its place
+  abbrev pub LowTable : Opening L.log → List X → Type 0
+  LowTable p xs = Tabulated L.means L.arithmetic L.arithmetic.unit (low p) (part (low_start L.log c) (width L.log) xs)
+
+  -- the tensor, the carry and the last of the packed elements that the stretch holds, at an opening in it
+  abbrev pub tensor_in : Opened → List X → Tensor L.log
+  tensor_in o xs = tensor_at L.arithmetic (opening_in L c o xs) (lent L.means xs)
+
+  abbrev pub carry_in : Opened → List X → Tensor L.log
+  carry_in o xs = carry_at L.arithmetic (opening_in L c o xs) (lent L.means xs)
+
+  abbrev pub last_in : Opened → List X → Tensor L.log
+  last_in o xs = last_at L.arithmetic (opening_in L c o xs) (lent L.means xs)
+
   -- The tables and tensors of an opening, of the packed elements that the stretch holds; carry and last where they are sent.
   pub record Worked (o : Opened) (xs : List X) : Type 0 where
     pub factors : SlotFactors (rest L.arithmetic (opening_in L c o xs)) xs
-    pub tensor_is : rows_in L (tensor_start L.log c) xs ≡ tensor_at L.arithmetic (opening_in L c o xs) (lent L.means xs)
-    pub carry_is : L.log < named o.view → rows_in L (carry_start L.log c) xs ≡ carry_at L.arithmetic (opening_in L c o xs) (lent L.means xs)
-    pub last_is : L.log < named o.view → rows_in L (last_start L.log c) xs ≡ last_at L.arithmetic (opening_in L c o xs) (lent L.means xs)
-    pub low_is : Tabulated L.means L.arithmetic L.arithmetic.unit (low (opening_in L c o xs)) (part (low_start L.log c) (width L.log) xs)
+    pub tensor_is : rows_in L (tensor_start L.log c) xs ≡ tensor_in o xs
+    pub carry_is : L.log < named o.view → rows_in L (carry_start L.log c) xs ≡ carry_in o xs
+    pub last_is : L.log < named o.view → rows_in L (last_start L.log c) xs ≡ last_in o xs
+    pub low_is : LowTable (opening_in L c o xs) xs
+
+  -- the incoming claim of the tensor
+  abbrev pub incoming_in : List X → Element L.log
+  incoming_in xs = incoming L.arithmetic (rows_in L (low_start L.log c) xs) (rows_in L (tensor_start L.log c) xs)
 
   -- the successor claim of the tensors, under a view of q row variables
   abbrev pub successor_in : ℕ → List X → Element L.log

@@ -8,7 +8,7 @@ ghost use Rattle.ring_switch.specs.Opening.{kept, rest, slot_start};
 ghost use Rattle.ring_switch.specs.Slots.{slot_count};
 ghost use Rattle.reduction.specs.Layout.{part, tensor_start, low_start, scratch_start, layout_end};
 ghost use Rattle.reduction.specs.Stretch.{Fits, Stands, opening_at as opening_of_point, opening_in, rows_in};
-ghost use Rattle.reduction.specs.Worked.{successor_in, initial_in, weight_at, weight_in, weights_in};
+ghost use Rattle.reduction.specs.Worked.{incoming_in, successor_in, initial_in, weight_at, weight_in, weights_in};
 
 use crate::layout::Layout;
 use crate::opened::Opened;
@@ -35,7 +35,7 @@ fn incoming_of<L: Level>(tensor: &[L], eq_low: &[L], columns: &mut [L]) -> L
 pub fn incoming_claim<L: Level>(memory: &mut [L], layout: Layout<L>) -> L
     requires room { layout_end L.Level.log layout.variables ≤ length memory.old }
     ensures before { take (scratch_start L.Level.log layout.variables) memory.new ≡ take (scratch_start L.Level.log layout.variables) memory.old }
-    ensures value { L.means result ≡ incoming L.arithmetic (rows_in L.Level (low_start L.Level.log layout.variables) memory.old) (rows_in L.Level (tensor_start L.Level.log layout.variables) memory.old) }
+    ensures value { L.means result ≡ incoming_in L.Level layout.variables memory.old }
 {
     let (held, scratch) = memory.split_at_mut(layout.scratch_start());
     let tensor = rows_at(held, layout.tensor_start());

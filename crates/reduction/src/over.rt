@@ -10,7 +10,7 @@ ghost use Rattle.equality.specs.Tables.{Tabulated};
 ghost use Rattle.folding.specs.Openings.{SlotOpens};
 ghost use Rattle.reduction.specs.Layout.{outer_entries, inner_entries};
 ghost use Rattle.reduction.specs.Stretch.{Fits, opening_at as opening_of_point};
-ghost use Rattle.reduction.specs.Worked.{BeginFactors, weight_at, tensor_at, carry_at, last_at};
+ghost use Rattle.reduction.specs.Worked.{BeginFactors, BeginWeights, tensor_at, carry_at, last_at};
 
 use crate::opened::Opened;
 use crate::parts::{batch_at, inner_entries, opening_at, outer_entries, slot_entries};
@@ -193,7 +193,7 @@ pub(crate) fn slot_weights<L: Level>(
     requires factors { BeginFactors L.means L.arithmetic (rest L.arithmetic (opening_of_point L.Level opened point.now)) outers.now inners.now }
     requires weights { 2 ^ (opened.variables - L.Level.log) ≤ length weights.old }
     requires scratch { length scratch.old ≡ 512 * num_bytes L.Level.log }
-    ensures { (i : ℕ) → i < slot_count L.arithmetic (opening_of_point L.Level opened point.now) → lent L.means weights.new i ≡ weight_at L.Level opened point.now (lent L.means table.now) (option_map L.means alpha) i }
+    ensures { BeginWeights L.Level opened point.now (lent L.means table.now) (option_map L.means alpha) weights.new }
 {
     let batch = batch_at(point, opened, table, alpha);
     let variables = batch.reduction.rest().len();

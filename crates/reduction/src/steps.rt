@@ -1,12 +1,11 @@
 ghost use Rattle.std.specs.Prelude.{◌≡◌, ◌<◌, ◌≤◌, map, length, take, is_some};
 ghost use Rattle.std.specs.Option.{option_map};
-ghost use Rattle.multilinear.specs.Lent.{lent};
 ghost use Rattle.level.specs.Element.{width};
 ghost use Rattle.ring_switch.specs.Opening.{named, kept, low, rest};
 ghost use Rattle.equality.specs.Tables.{Tabulated};
 ghost use Rattle.opening.specs.Openings.{opening_of};
 ghost use Rattle.reduction.specs.Layout.{part, point_start, outer_start, tensor_start, carry_start, last_start, low_start, batching_start, layout_end};
-ghost use Rattle.reduction.specs.Worked.{Worked, Batched, batching_in, SlotFactors, tensor_at, carry_at, last_at};
+ghost use Rattle.reduction.specs.Worked.{Worked, Batched, batching_in, SlotFactors, LowTable, tensor_in, carry_in, last_in};
 ghost use Rattle.reduction.specs.Stretch.{Stands, point_in, opening_in, rows_in};
 
 use crate::layout::Layout;
@@ -50,7 +49,7 @@ fn work_tensor<L: Level>(memory: &mut [L], layout: Layout<L>, opened: Opened)
     requires stands { Stands L.Level layout.variables opened memory.old }
     ensures before { take (outer_start L.Level.log layout.variables) memory.new ≡ take (outer_start L.Level.log layout.variables) memory.old }
     ensures factors { SlotFactors L.Level layout.variables (rest L.arithmetic (opening_in L.Level layout.variables opened memory.old)) memory.new }
-    ensures tensor { rows_in L.Level (tensor_start L.Level.log layout.variables) memory.new ≡ tensor_at L.arithmetic (opening_in L.Level layout.variables opened memory.old) (lent L.means memory.old) }
+    ensures tensor { rows_in L.Level (tensor_start L.Level.log layout.variables) memory.new ≡ tensor_in L.Level layout.variables opened memory.old }
 {
     let most = layout.most();
     let (held, rest) = memory.split_at_mut(layout.outer_start());
@@ -70,8 +69,8 @@ fn work_successor<L: Level>(memory: &mut [L], layout: Layout<L>, opened: Opened)
     requires stands { Stands L.Level layout.variables opened memory.old }
     requires factors { SlotFactors L.Level layout.variables (rest L.arithmetic (opening_in L.Level layout.variables opened memory.old)) memory.old }
     ensures before { take (carry_start L.Level.log layout.variables) memory.new ≡ take (carry_start L.Level.log layout.variables) memory.old }
-    ensures carry { rows_in L.Level (carry_start L.Level.log layout.variables) memory.new ≡ carry_at L.arithmetic (opening_in L.Level layout.variables opened memory.old) (lent L.means memory.old) }
-    ensures last { rows_in L.Level (last_start L.Level.log layout.variables) memory.new ≡ last_at L.arithmetic (opening_in L.Level layout.variables opened memory.old) (lent L.means memory.old) }
+    ensures carry { rows_in L.Level (carry_start L.Level.log layout.variables) memory.new ≡ carry_in L.Level layout.variables opened memory.old }
+    ensures last { rows_in L.Level (last_start L.Level.log layout.variables) memory.new ≡ last_in L.Level layout.variables opened memory.old }
 {
     let width = width::<L>();
     let (held, rest) = memory.split_at_mut(layout.carry_start());
@@ -94,8 +93,8 @@ fn work_sent<L: Level>(memory: &mut [L], layout: Layout<L>, opened: Opened)
     requires stands { Stands L.Level layout.variables opened memory.old }
     requires factors { SlotFactors L.Level layout.variables (rest L.arithmetic (opening_in L.Level layout.variables opened memory.old)) memory.old }
     ensures before { take (carry_start L.Level.log layout.variables) memory.new ≡ take (carry_start L.Level.log layout.variables) memory.old }
-    ensures carry { L.Level.log < named opened.view → rows_in L.Level (carry_start L.Level.log layout.variables) memory.new ≡ carry_at L.arithmetic (opening_in L.Level layout.variables opened memory.old) (lent L.means memory.old) }
-    ensures last { L.Level.log < named opened.view → rows_in L.Level (last_start L.Level.log layout.variables) memory.new ≡ last_at L.arithmetic (opening_in L.Level layout.variables opened memory.old) (lent L.means memory.old) }
+    ensures carry { L.Level.log < named opened.view → rows_in L.Level (carry_start L.Level.log layout.variables) memory.new ≡ carry_in L.Level layout.variables opened memory.old }
+    ensures last { L.Level.log < named opened.view → rows_in L.Level (last_start L.Level.log layout.variables) memory.new ≡ last_in L.Level layout.variables opened memory.old }
 {
     let absorbed = usize::from(L::log_width());
     if opened.view.unwrap_or(0) > absorbed {
@@ -108,7 +107,7 @@ fn work_low<L: Level>(memory: &mut [L], layout: Layout<L>, opened: Opened)
     requires room { layout_end L.Level.log layout.variables ≤ length memory.old }
     requires stands { Stands L.Level layout.variables opened memory.old }
     ensures before { take (low_start L.Level.log layout.variables) memory.new ≡ take (low_start L.Level.log layout.variables) memory.old }
-    ensures low { Tabulated L.means L.arithmetic L.arithmetic.unit (low (opening_in L.Level layout.variables opened memory.old)) (part (low_start L.Level.log layout.variables) (width L.Level.log) memory.new) }
+    ensures low { LowTable L.Level layout.variables (opening_in L.Level layout.variables opened memory.old) memory.new }
 {
     let (held, rest) = memory.split_at_mut(layout.low_start());
     let (table, _) = rest.split_at_mut(width::<L>());
