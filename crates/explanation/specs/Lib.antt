@@ -1,1 +1,1 @@
-pub mod Batched
+pub mod Texts

@@ -2,7 +2,6 @@
 // The steps of the reduction are taken in turn, until one is refused.
 #![tactic(auto)]
 
-pub mod batched_slot;
 pub mod explain;
 pub mod report;
 mod step_lines;

@@ -1,12 +1,14 @@
-ghost use Rattle.std.specs.Prelude.{◌≡◌, ◌*◌, ◌^◌, ◌≤◌, ◌++◌, length, string_bytes, OnOk};
+ghost use Rattle.std.specs.Prelude.{◌≡◌, ◌*◌, ◌^◌, ◌≤◌, ◌++◌, string_bytes, OnOk};
 ghost use Rattle.level.specs.Element.{width};
 ghost use Rattle.multilinear.specs.Cells.{cell};
-ghost use Rattle.explanation.specs.Batched.{batching_of};
-ghost use Rattle.report_lines.specs.Report.{lines_below, packed_line, weight_line, batching_text};
+ghost use Rattle.report_lines.specs.Batched.{batching_of};
+ghost use Rattle.report_lines.specs.Report.{lines_below, packed_line, batching_text};
+ghost use Rattle.explanation.specs.Texts.{weights_text};
 
-use crate::batched_slot::BatchedSlot;
 use element_text::element::Shown;
 use level::level::Level;
+use opening::batch::BitRingSwitchBatch;
+use plain::batching::{slot_sum, weight};
 use plain::cells::packed_element;
 use report_lines::lines::line;
 use std::alloc::AllocError;
@@ -27,27 +29,25 @@ pub(crate) fn packed_lines<L: Level>(
     Ok(())
 }
 
-// Adds a line for each weight of a slot.
-fn weight_lines<L: Level>(out: &mut String, batched: &BatchedSlot<L>) -> Result<(), AllocError>
-    requires narrow { L.Level.log ≤ 7 }
-    ensures { OnOk result (string_bytes out.new ≡ string_bytes out.old ++ lines_below (2 ^ length batched.now.batching.slot.now) (weight_line L.arithmetic (batching_of L.means batched.now))) }
+// Adds a line for each weight of the slot.
+fn weight_lines<L: Level>(out: &mut String, batch: &BitRingSwitchBatch<L>) -> Result<(), AllocError>
+    ensures { OnOk result (string_bytes out.new ≡ string_bytes out.old ++ weights_text L.Level batch.now) }
 {
     // Numbers, since each weight is formed and no list holds them.
-    for i in 0..1 << batched.batching.slot.len() {
-        line(out, "weight", Shown(batched.batching.weight(i)))?;
+    for i in 0..1 << batch.reduction.rest().len() {
+        line(out, "weight", Shown(weight(batch, i)))?;
     }
     Ok(())
 }
 
-// Adds the lines of a batching: the initial sum and the weights.
+// Adds the lines of a batching over a table of bits: the initial sum and the weights.
 pub(crate) fn batch_lines<L: Level>(
     out: &mut String,
-    batched: &BatchedSlot<L>,
+    batch: &BitRingSwitchBatch<L>,
+    bits: &[u8],
 ) -> Result<(), AllocError>
-    requires narrow { L.Level.log ≤ 7 }
-    ensures { OnOk result (string_bytes out.new ≡ string_bytes out.old ++ batching_text L.arithmetic (batching_of L.means batched.now)) }
+    ensures { OnOk result (string_bytes out.new ≡ string_bytes out.old ++ batching_text L.arithmetic (batching_of L.Level batch.now) (cell bits.now)) }
 {
-    line(out, "initial", Shown(batched.initial))?;
-    weight_lines(out, batched)?;
-    Ok(())
+    line(out, "initial", Shown(slot_sum(batch, bits)))?;
+    weight_lines(out, batch)
 }

@@ -10,9 +10,9 @@ use Rattle.refusals.specs.Refusals.{Refusal}
 use Rattle.refusals.specs.Steps.{told, packing, batching}
 use Rattle.problem.specs.Task.{Task, asked}
 use Rattle.report_lines.specs.Opened.{Values, open_refusal, values_at}
-use Rattle.report_lines.specs.Batched.{batch_refusal, batching_with, batching_at}
+use Rattle.report_lines.specs.Batched.{Agree, Batching, batch_refusal, batching_at}
 use Rattle.report_lines.specs.Report.{refusal_line, unless, lines_below, packed_line, variables_of, opening_text, batching_text, closing_text, batched_text, opened_text, report_text}
-use Rattle.report_lines.proofs.SameRows.{Agree, same_batching, same_closings}
+use Rattle.report_lines.proofs.SameRows.{same_batching, same_closings}
 
 -- a step that is refused, and one that is not, whose lines and those after it come to the same
 module _ (o : Option Refusal) (a text : List ℕ) where
@@ -36,15 +36,14 @@ module _ {k : ℕ} (A : Arithmetic k) (t : Task k) (bits : List ℕ) (same_bits 
 
       -- batched with weights that agree with the equality table of the batching point
       pub batching_passed : (b : List ℕ) (f : ℕ → Element k) → Agree f (equality A p) → None ≡ batch_refusal k o.view α n
-          → b ≡ a ++ batching_text A (batching_with A o (cell bits) f t.challenge)
-          → b ++ closing_text A (batching_with A o (cell bits) f t.challenge) t.closings ≡ a ++ batched_text A t (Some p)
+          → b ≡ a ++ batching_text A (record { opening = o; rows = f; challenge = t.challenge }) (cell bits)
+          → b ++ closing_text A (record { opening = o; rows = f; challenge = t.challenge }) t.closings ≡ a ++ batched_text A t (Some p)
       unfolding batched_text
       batching_passed b f agree e w =
-          let s = batching_with A o (cell bits) f t.challenge in
-          passed_step _ a _ b (batching_text A s) (closing_text A s t.closings) (e ∙ same_refusal) w
-          (sym (ap₂ (λ (x y : List ℕ). x ++ y) (same_batching A f (equality A p) agree o (cell bits) t.challenge)
-          (same_closings A f (equality A p) agree o (cell bits) t.challenge t.closings)
-          ∙ ap₂ (λ (q : Opening k) (l : List ℕ). let x = batching_at A q (cell l) p t.challenge in batching_text A x ++ closing_text A x t.closings) same same_bits))
+          let s : Batching k = record { opening = o; rows = f; challenge = t.challenge } in
+          passed_step _ a _ b (batching_text A s (cell bits)) (closing_text A s t.closings) (e ∙ same_refusal) w
+          (sym (ap₂ (λ (x y : List ℕ). x ++ y) (same_batching A f (equality A p) agree o t.challenge (cell bits)) (same_closings A f (equality A p) agree o t.challenge t.closings)
+          ∙ ap₂ (λ (q : Opening k) (l : List ℕ). let x = batching_at A q p t.challenge in batching_text A x (cell l) ++ closing_text A x t.closings) same same_bits))
 
     module _ (v n : ℕ) (variables : v ≡ variables_of k (length t.bits)) (len : n ≡ length t.point) where
       same_opening : open_refusal k v n t.view ≡ open_refusal k (variables_of k (length t.bits)) (length t.point) t.view

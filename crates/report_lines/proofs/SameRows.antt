@@ -1,5 +1,5 @@
 -- Batching weights that agree at each coordinate of an element come to the same.
-use Rattle.std.proofs.Common.{◌≡◌, ℕ, ◌-◌, ◌<◌, List, [], ◌∷◌, ◌++◌, not, length, Some, None, codes, Option, refl, ap, ap₂}
+use Rattle.std.proofs.Common.{◌≡◌, ℕ, ◌-◌, List, [], ◌∷◌, ◌++◌, not, length, Some, None, codes, Option, refl, ap, ap₂}
 use Rattle.level.specs.Element.{Element, width, coordinate, plus}
 use Rattle.level.specs.Laws.{Arithmetic}
 use Rattle.multilinear.specs.Sums.{at_bit, where_set}
@@ -12,13 +12,9 @@ use Rattle.ring_switch.specs.Batching.{settled, weight, successor_rows, initial_
 use Rattle.refusals.specs.Steps.{closing}
 use Rattle.element_text.specs.Hex.{element_text}
 use Rattle.report_lines.specs.Lines.{line}
-use Rattle.report_lines.specs.Batched.{batching_with}
+use Rattle.report_lines.specs.Batched.{Agree, Batching}
 use Rattle.report_lines.specs.Report.{unless, batching_text, closing_text}
 use Rattle.report_lines.proofs.Writing.{below_same}
-
--- two tables agree at each coordinate of an element
-abbrev pub Agree : {k : ℕ} → (ℕ → Element k) → (ℕ → Element k) → Type 0
-Agree {k} f g = (u : ℕ) → u < width k → f u ≡ g u
 
 module _ {k : ℕ} (A : Arithmetic k) (f g : ℕ → Element k) (same : Agree f g) where
   same_settled : (e : ℕ → Element k) (i : ℕ) → settled f e i ≡ settled g e i
@@ -50,14 +46,17 @@ module _ {k : ℕ} (A : Arithmetic k) (f g : ℕ → Element k) (same : Agree f 
   same_closing slot r None z = same_rows _
   same_closing slot r (Some α) z = ap₂ plus (same_rows _) (same_successor α _ _)
 
-  module _ (o : Opening k) (bits : ℕ → ℕ) (α : Option (Element k)) where
-    pub same_batching : batching_text A (batching_with A o bits f α) ≡ batching_text A (batching_with A o bits g α)
+  module _ (o : Opening k) (α : Option (Element k)) where
+    abbrev with : (ℕ → Element k) → Batching k
+    with h = record { opening = o; rows = h; challenge = α }
+
+    pub same_batching : (bits : ℕ → ℕ) → batching_text A (with f) bits ≡ batching_text A (with g) bits
     unfolding batching_text
-    same_batching =
+    same_batching bits =
         ap₂ (λ x (t : List ℕ). line (codes "initial") (element_text x) ++ t) (same_initial α _ _ _)
         (below_same _ _ _ (λ i h. ap (λ x. line (codes "weight") (element_text x)) (same_weight _ _ α i)))
 
-    pub same_closings : (zs : List (Point k)) → closing_text A (batching_with A o bits f α) zs ≡ closing_text A (batching_with A o bits g α) zs
+    pub same_closings : (zs : List (Point k)) → closing_text A (with f) zs ≡ closing_text A (with g) zs
     unfolding closing_text
     same_closings [] = refl
     same_closings (z ∷ zs) =

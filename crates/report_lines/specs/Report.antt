@@ -13,7 +13,7 @@ use Rattle.refusals.specs.Steps as step
 use Rattle.problem.specs.Task.{Task, asked}
 use Rattle.report_lines.specs.Lines.{line, optional_text}
 use Rattle.report_lines.specs.Opened.{Values, open_refusal, values_at}
-use Rattle.report_lines.specs.Batched.{Batching, batch_refusal, batching_at}
+use Rattle.report_lines.specs.Batched.{Batching, batch_refusal, batching_at, initial}
 use Rattle.report_lines.specs.declared.stop.Stop.{Stop}
 use Rattle.report_lines.specs.declared.stop.Stop.TheVariants.{Refused, Memory}
 
@@ -45,8 +45,8 @@ opening_text v =
 abbrev pub weight_line : {k : ℕ} → Arithmetic k → Batching k → ℕ → List ℕ
 weight_line A b i = line (codes "weight") (element_text (weight A b.rows (slot_table A b.opening) (kept_rows b.opening) b.challenge i))
 
-unfoldable pub batching_text : {k : ℕ} → Arithmetic k → Batching k → List ℕ
-batching_text A b = line (codes "initial") (element_text b.initial) ++ lines_below (slot_count A b.opening) (weight_line A b)
+unfoldable pub batching_text : {k : ℕ} → Arithmetic k → Batching k → (ℕ → ℕ) → List ℕ
+batching_text A b bits = line (codes "initial") (element_text (initial A b bits)) ++ lines_below (slot_count A b.opening) (weight_line A b)
 
 abbrev pub closing_line : {k : ℕ} → Arithmetic k → Batching k → Point k → List ℕ
 closing_line A b z = line (codes "closing") (element_text (closing_value A b.rows (rest A b.opening) (kept_rows b.opening) b.challenge z))
@@ -59,8 +59,8 @@ closing_text A b (z ∷ zs) = unless (step.closing (length (rest A b.opening)) (
 unfoldable pub batched_text : {k : ℕ} → Arithmetic k → Task k → Option (Point k) → List ℕ
 batched_text A t None = []
 batched_text {k} A t (Some b) =
-    let batched = batching_at A (asked t) (cell t.bits) b t.challenge in
-    unless (batch_refusal k t.view t.challenge (length b)) (batching_text A batched ++ closing_text A batched t.closings)
+    let batched = batching_at A (asked t) b t.challenge in
+    unless (batch_refusal k t.view t.challenge (length b)) (batching_text A batched (cell t.bits) ++ closing_text A batched t.closings)
 
 unfoldable pub opened_text : {k : ℕ} → Arithmetic k → Task k → List ℕ
 opened_text {k} A t =

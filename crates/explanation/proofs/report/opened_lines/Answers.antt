@@ -1,27 +1,29 @@
-use Rattle.std.proofs.Common.{◌≡◌, ◌++◌, map, length, Some, vec_items, string_bytes, Option, Vec, sym, ap, ◌∙◌, subst}
+use Rattle.std.proofs.Common.{◌≡◌, ◌++◌, map, length, Some, vec_items, string_bytes, Option, Vec, sym, refl, ap, ◌∙◌, subst}
 use lib.ListN.{length-map}
 use Rattle.std.proofs.lemmas.List.{append-nil}
 use Rattle.std.proofs.lemmas.Result.{err_from_is_err_and}
 use Rattle.std.specs.Option.{option_map}
 use Rattle.std.specs.declared.alloc.Global.{Global}
 use Rattle.multilinear.specs.Equality.{Point}
+use Rattle.opening.specs.Openings.{opening_of}
 use Rattle.report_lines.specs.Opened.{values_of}
 use Rattle.problem.specs.Task.{task_of}
 use Rattle.report_lines.specs.Report.{Reported, batched_text, opened_text}
 use Rattle.report_lines.proofs.Reporting.{opening_refused, opening_passed}
+use Rattle.explanation.proofs.Values.{same_opening}
 use Rattle.explanation.proofs.report.opened_lines.Given as given
 use Rattle.explanation.proofs.report.opened_lines.Goals as goal
 use Rattle.explanation.proofs.report.opened_lines.Goals.{In_ok-opening_lines}
 
-pub returns-in_err-opening : goal.returns-in_err-opening
-returns-in_err-opening g c =
+pub returns-in_err-reduction : goal.returns-in_err-reduction
+returns-in_err-reduction g c =
     let m = g.L.Level in
     let t = task_of m.means c.args.problem.now in
-    let points = c.as_slice-point.ensures.value in
+    let points = c.as_slice.ensures.value in
     let p = err_from_is_err_and c.from_residual.result c.from_residual.ensures.1 in
-    rw (p.1, p.2) (opening_refused m.arithmetic t _ c.as_slice-bits.ensures.value (string_bytes c.args.out.now) _ (ap (map m.means) points)
-    c.args.variables (length c.as_slice-point.result.now) c.requires.packed (ap length points ∙ sym (length-map (vec_items c.args.problem.now.point) m.means)) _
-    c.in_err-opening.ensures.refusal)
+    rw (p.1, p.2) (opening_refused m.arithmetic t _ refl (string_bytes c.args.out.now)
+    c.args.variables (length c.as_slice.result.now) c.requires.packed (ap length points ∙ sym (length-map (vec_items c.args.problem.now.point) m.means)) _
+    c.in_err-reduction.ensures.refusal)
 
 -- what is written of the opening, and the text of the batching
 passed : (g : given.Over) (c : In_ok-opening_lines g)
@@ -30,11 +32,12 @@ passed : (g : given.Over) (c : In_ok-opening_lines g)
 passed g c =
     let m = g.L.Level in
     let t = task_of m.means c.args.problem.now in
-    let points = c.as_slice-point.ensures.value in
-    opening_passed m.arithmetic t _ c.as_slice-bits.ensures.value (string_bytes c.args.out.now) _ (ap (map m.means) points)
-    c.args.variables (length c.as_slice-point.result.now) c.requires.packed (ap length points ∙ sym (length-map (vec_items c.args.problem.now.point) m.means))
-    (string_bytes c.opening_lines.new.out) (values_of m.means c.in_ok-opening.opening)
-    c.in_ok-opening.ensures.refusal c.in_ok-opening.ensures.opened c.in_ok-opening_lines.ensures
+    let points = c.as_slice.ensures.value in
+    opening_passed m.arithmetic t _ c.as_slice-2.ensures.value (string_bytes c.args.out.now) (opening_of m c.in_ok-reduction.reduction)
+    (same_opening m.means _ _ _ _ (c.in_ok-reduction.ensures.point ∙ points) c.in_ok-reduction.ensures.view)
+    c.args.variables (length c.as_slice.result.now) c.requires.packed (ap length points ∙ sym (length-map (vec_items c.args.problem.now.point) m.means))
+    (string_bytes c.opening_lines.new.out) (values_of m.means c.opening_values.result)
+    c.in_ok-reduction.ensures.refusal c.opening_values.ensures c.in_ok-opening_lines.ensures
 
 pub returns-in-Some : goal.returns-in-Some
 returns-in-Some g c =
@@ -42,7 +45,7 @@ returns-in-Some g c =
     let t = task_of m.means c.args.problem.now in
     let points : Vec g.row.L.Denot Global → Point m.log = λ v. map m.means (vec_items v) in
     subst (Reported c.batched_lines.result (string_bytes c.batched_lines.new.out))
-    (ap (λ l. string_bytes c.opening_lines.new.out ++ batched_text m.arithmetic t (Some (map m.means l))) c.as_slice.ensures.value
+    (ap (λ l. string_bytes c.opening_lines.new.out ++ batched_text m.arithmetic t (Some (map m.means l))) c.as_slice-in-Some.ensures.value
     ∙ ap (λ (o : Option (Vec g.row.L.Denot Global)). string_bytes c.opening_lines.new.out ++ batched_text m.arithmetic t (option_map points o)) (sym c.in-Some.is)
     ∙ passed g (goal.at.returns-in-Some g c).In_ok-opening_lines)
     c.batched_lines.ensures
