@@ -1,4 +1,4 @@
-ghost use Rattle.std.specs.Prelude.{◌≡◌, ◌*◌, ◌<◌, ◌≤◌, map, length, take, is_some};
+ghost use Rattle.std.specs.Prelude.{◌≡◌, ◌*◌, ◌<◌, ◌≤◌, map, length, take, is_some, IfSome};
 ghost use Rattle.std.specs.Option.{option_map};
 ghost use Rattle.multilinear.specs.Equality.{multilinear};
 ghost use Rattle.level.specs.Element.{width};
@@ -6,7 +6,7 @@ ghost use Rattle.multilinear.specs.Lent.{lent};
 ghost use Rattle.ring_switch.specs.Claims.{incoming, successor_claim};
 ghost use Rattle.ring_switch.specs.Opening.{kept, rest, slot_start};
 ghost use Rattle.ring_switch.specs.Slots.{slot_count};
-ghost use Rattle.reduction.specs.Layout.{part, tensor_start, low_start, scratch_start, layout_end};
+ghost use Rattle.reduction.specs.Layout.{part, tensor_start, carry_start, last_start, scratch_start, layout_end};
 ghost use Rattle.reduction.specs.Stretch.{Fits, Stands, opening_at as opening_of_point, opening_in, rows_in};
 ghost use Rattle.reduction.specs.Worked.{incoming_in, successor_in, initial_in, weight_at, weight_in, weights_in};
 
@@ -174,6 +174,31 @@ pub fn tensor<L: Level>(memory: &[L], layout: Layout<L>) -> PerCoordinate<'_, L>
     PerCoordinate {
         elements: rows_at(memory, layout.tensor_start()),
     }
+}
+
+// The carry and the last that the stretch holds, to be sent: there exactly where the view's rows are longer than one element.
+pub fn successor_tensors<'a, L: Level>(
+    memory: &'a [L],
+    layout: Layout<L>,
+    opened: Opened,
+) -> Option<SuccessorTensors<'a, 'a, L>>
+    requires room { layout_end L.Level.log layout.variables ≤ length memory.now }
+    requires stands { Stands L.Level layout.variables opened memory.now }
+    ensures sent { is_some result ≡ is_some (kept L.Level.log opened.view) }
+    ensures carry { IfSome result (λ t. t.carry.elements.now ≡ part (carry_start L.Level.log layout.variables) (width L.Level.log) memory.now) }
+    ensures last { IfSome result (λ t. t.last.elements.now ≡ part (last_start L.Level.log layout.variables) (width L.Level.log) memory.now) }
+{
+    let reduction = opening_at(point_in(memory, layout, opened.variables), opened);
+    if !reduction.sends_successor_tensors() {
+        return None;
+    }
+    let start = layout.carry_start();
+    let carry = rows_at(memory, start);
+    let last = rows_at(memory, start + width::<L>());
+    Some(SuccessorTensors {
+        carry: PerCoordinate { elements: carry },
+        last: PerCoordinate { elements: last },
+    })
 }
 
 // The packed elements of the slot of the opening that the stretch holds.
