@@ -1,2 +1,1 @@
-pub mod Batched
-pub mod Texts
+pub mod Held

@@ -1,50 +1,51 @@
-ghost use Rattle.std.specs.Prelude.{◌≡◌, ℕ, ◌*◌, ◌^◌, ◌<◌, ◌≤◌, ◌++◌, map, length, string_bytes, OnOk};
-ghost use Rattle.level.specs.Element.{width};
-ghost use Rattle.report_lines.specs.Closings.{Closes};
-ghost use Rattle.report_lines.specs.Report.{batching_text, closing_text, Reported};
-ghost use Rattle.reducing.specs.Batched.{batching_of};
+ghost use Rattle.std.specs.Prelude.{◌≡◌, ℕ, ◌/◌, ◌≤◌, ◌++◌, map, length, string_bytes, OnOk};
+ghost use Rattle.report_lines.specs.Closings.{Closes, closed_text};
+ghost use Rattle.report_lines.specs.Report.{batching_text, Reported};
+ghost use Rattle.reducing.specs.Held.{HoldsBatching, batching_held};
 
-use crate::batch::SlotBatch;
-use coordinates::width;
+use crate::opened_problem::OpenedProblem;
+use crate::steps::close;
 use element_text::element::Shown;
 use level::level::Level;
+use reduction::answers::{initial_sum, weights};
 use refusals::faults::BitRingSwitchError;
 use report_lines::closings;
 use report_lines::lines::{element_lines, line};
 use report_lines::stop::Stop;
-use std::alloc::{AllocError, Global};
+use std::alloc::AllocError;
 
-// Adds the lines of a batching: the initial sum and the weights.
+// Adds the lines of the batching that the stretch holds: the initial sum and the weights.
 pub(crate) fn batch_lines<L: Level>(
     out: &mut String,
-    batch: &SlotBatch<L>,
+    opened: &OpenedProblem<L>,
+    memory: &[L],
 ) -> Result<(), AllocError>
-    ensures { OnOk result (string_bytes out.new ≡ string_bytes out.old ++ batching_text L.arithmetic (batching_of L.Level batch.now)) }
+    requires { HoldsBatching L.Level opened.now memory.now }
+    ensures { OnOk result (string_bytes out.new ≡ string_bytes out.old ++ batching_text L.arithmetic (batching_held L.Level opened.now memory.now)) }
 {
-    line(out, "initial", Shown(batch.tables.initial))?;
-    element_lines(out, "weight", batch.tables.weights.as_slice())
+    let (layout, numbers) = (opened.layout, opened.opened);
+    let initial = initial_sum(memory, layout, numbers, opened.problem.challenge);
+    line(out, "initial", Shown(initial))?;
+    element_lines(out, "weight", weights(memory, layout, numbers))
 }
 
 // Adds the line of each closing point, until one is refused.
 pub(crate) fn closing_lines<L: Level>(
-    heap: Global,
     out: &mut String,
-    batch: &SlotBatch<L>,
-    closings: &[Vec<L>],
+    opened: &OpenedProblem<L>,
+    memory: &mut [L],
 ) -> Result<(), Stop>
-    requires narrow { L.Level.log ≤ 7 }
-    ensures { Reported result (string_bytes out.new) (string_bytes out.old ++ closing_text L.arithmetic (batching_of L.Level batch.now) (map (λ v. map L.means v.items) closings.now)) }
+    requires { HoldsBatching L.Level opened.now memory.old }
+    ensures { Reported result (string_bytes out.new) (string_bytes out.old ++ closed_text L.Level (batching_held L.Level opened.now memory.old) opened.now.problem.now.closings.items) }
 {
-    let mut rows = vec![in heap; L::zero(); 3 * width::<L>()]?;
-    let scratch = rows.as_mut_slice();
     closings::closing_lines(
         out,
-        closings,
+        opened.problem.closings.as_slice(),
         |z: &[L]| -> Result<L, BitRingSwitchError>
-            requires narrow { L.Level.log ≤ 7 }
-            requires rows { length scratch.now ≡ 3 * width L.Level.log }
-            ensures rows { length scratch.exit.now ≡ length scratch.entry.now }
-            ensures closes { Closes L.means L.arithmetic (batching_of L.Level batch.entry.now) z.now result }
-        { batch.close(z, scratch) },
+            requires holds { HoldsBatching L.Level opened.now memory.now }
+            ensures holds { HoldsBatching L.Level opened.exit.now memory.exit.now }
+            ensures same { batching_held L.Level opened.exit.now memory.exit.now ≡ batching_held L.Level opened.entry.now memory.entry.now }
+            ensures closes { Closes L.means L.arithmetic (batching_held L.Level opened.entry.now memory.entry.now) z.now result }
+        { close(opened, memory, z) },
     )
 }

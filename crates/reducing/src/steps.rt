@@ -1,72 +1,84 @@
-ghost use Rattle.std.specs.Prelude.{◌≡◌, ℕ, ◌*◌, ◌<◌, ◌≤◌, map, length, IfOk};
-ghost use Rattle.std.specs.Option.{option_map};
-ghost use Rattle.multilinear.specs.Cells.{cell, standing, one_row_on, packed as packed_element};
-ghost use Rattle.multilinear.specs.Equality.{Point, multilinear};
-ghost use Rattle.ring_switch.specs.Opening.{low};
+ghost use Rattle.std.specs.Prelude.{◌≡◌, ℕ, ◌-◌, ◌/◌, ◌<◌, ◌≤◌, length, IfOk};
+ghost use Rattle.multilinear.specs.Cells.{cell, packed};
 ghost use Rattle.multilinear.specs.Lent.{lent};
-ghost use Rattle.ring_switch.specs.ClaimLaws.{Binary};
-ghost use Rattle.equality.specs.Tables.{Tabulated};
 ghost use Rattle.level.specs.Bytes.{num_bytes};
-ghost use Rattle.plain.specs.Openings.{named};
-ghost use Rattle.reduction.specs.Worked.{Worked};
-ghost use Rattle.report_lines.specs.Opened.{values_at, values_of};
+ghost use Rattle.problem.specs.Task.{asked};
+ghost use Rattle.refusals.specs.Refusals.{ring_switch_refusal, refused};
+ghost use Rattle.report_lines.specs.Opened.{open_refusal, values_at, values_of};
+ghost use Rattle.report_lines.specs.Closings.{Closes};
+ghost use Rattle.reducing.specs.Held.{HoldsTable, HoldsOpening, HoldsTensors, HoldsBatching, task, batching_held};
 
-use coordinates::per_coordinate::PerCoordinate;
+use crate::opened_problem::OpenedProblem;
 use level::level::Level;
-use packing::pack_elements;
-use plain::opening::fixed_prefix;
-use reduction::opened_claims::{incoming, low_equality};
-use reduction::work::OpenedTable;
-use report_lines::opening::Opening;
-use std::alloc::{AllocError, Global};
+use problem::problem::Problem;
+use reduction::answers::{closing_value, incoming_claim, successor_claim};
+use reduction::layout::Layout;
+use reduction::steps;
+use refusals::faults::BitRingSwitchError;
+use report_lines::values::{OpeningValues, open as opened_at};
 
-// The packed elements of a table, of which there are `count`. The caller has the count by a shift, and the bytes would give it by a division
-// a second time.
-pub(crate) fn pack<L: Level>(heap: Global, bits: &[u8], count: usize) -> Result<Vec<L>, AllocError>
-    requires level { (3 ≤ L.Level.log) × (L.Level.log ≤ 7) }
-    requires count { length bits.now ≡ count * num_bytes L.Level.log }
-    ensures count { IfOk result (λ v. length v.items ≡ count) }
-    ensures elements { IfOk result (λ v. (w : ℕ) → w < count → lent L.means v.items w ≡ packed_element L.Level.log (cell bits.now) w) }
+// Puts the opening of a problem into the stretch that has its table.
+pub(crate) fn open<'a, L: Level>(
+    problem: &'a Problem<L>,
+    layout: Layout<L>,
+    memory: &mut [L],
+) -> Result<OpenedProblem<'a, L>, BitRingSwitchError>
+    requires { HoldsTable L.Level problem.now layout.variables memory.old }
+    ensures refusal { refused ring_switch_refusal result ≡ open_refusal L.Level.log (layout.variables - L.Level.log) (length problem.now.point.items) problem.now.view }
+    ensures problem { IfOk result (λ p. p.problem.now ≡ problem.now) }
+    ensures holds { IfOk result (λ p. HoldsOpening L.Level p memory.new) }
 {
-    let mut packed = vec![in heap; L::zero(); count]?;
-    pack_elements(bits, packed.as_mut_slice());
-    Ok(packed)
+    let variables = layout.variables() - usize::from(L::log_width());
+    let reduction = opened_at(variables, problem.point.as_slice(), problem.view)?;
+    let opened = steps::open(memory, layout, &reduction);
+    Ok(OpenedProblem {
+        problem,
+        reduction,
+        layout,
+        opened,
+    })
 }
 
-// The successor claim, where there is a view. With `view.map(..).transpose()` in place of the `match`, the check leaves the clause open.
-fn successor_of<L: Level>(
-    heap: Global,
-    opened: &OpenedTable<L>,
-    eq_low: PerCoordinate<'_, L>,
-    view: Option<usize>,
-) -> Result<Option<L>, AllocError>
-    requires { L.Level.log ≤ 7 }
-    ensures { IfOk result (λ o. (p : Point L.Level.log) (bits : ℕ → ℕ) → Binary bits → L.Level.log ≤ length p → named view ≤ length p → Tabulated L.means L.arithmetic L.arithmetic.unit (low p) eq_low.entry.elements.now → Worked L.Level p view bits opened.now → option_map L.means o ≡ option_map (λ q. multilinear L.arithmetic (λ c. standing L.arithmetic (one_row_on q bits c)) p) view) }
+// The values of an opening, whose tensors are formed.
+pub(crate) fn opening_values<L: Level>(
+    opened: &OpenedProblem<L>,
+    memory: &mut [L],
+) -> OpeningValues<L>
+    requires { HoldsOpening L.Level opened.now memory.old }
+    ensures values { let t = task L.Level opened.now in values_of L.means result ≡ values_at L.arithmetic (asked t) (cell t.bits) }
+    ensures holds { HoldsTensors L.Level opened.now memory.new }
 {
-    match view {
-        Some(q) => Ok(Some(opened.successor_claim(heap, eq_low, q)?)),
-        None => Ok(None),
+    steps::work(memory, opened.layout, opened.opened);
+    let incoming = incoming_claim(memory, opened.layout);
+    let successor = match opened.reduction.view {
+        Some(rows) => Some(successor_claim(memory, opened.layout, rows)),
+        None => None,
+    };
+    OpeningValues {
+        incoming,
+        successor,
+        prefix: opened.reduction.fixed_prefix(),
     }
 }
 
-// The values of an opening whose tensors are formed.
-pub(crate) fn values<L: Level>(
-    heap: Global,
-    opened: &OpenedTable<L>,
-    point: &[L],
-    view: Option<usize>,
-) -> Result<Opening<L>, AllocError>
-    requires narrow { L.Level.log ≤ 7 }
-    requires absorbed { L.Level.log ≤ length point.now }
-    requires short { length point.now < 64 }
-    requires rows { named view ≤ length point.now }
-    ensures { IfOk result (λ o. (bits : ℕ → ℕ) → Binary bits → Worked L.Level (map L.means point.now) view bits opened.now → values_of L.means o ≡ values_at L.arithmetic bits (map L.means point.now) view) }
+// The closing value at a point, where it has a coordinate for each of the slot's.
+pub(crate) fn close<L: Level>(
+    opened: &OpenedProblem<L>,
+    memory: &mut [L],
+    z: &[L],
+) -> Result<L, BitRingSwitchError>
+    requires { HoldsBatching L.Level opened.now memory.old }
+    ensures holds { HoldsBatching L.Level opened.now memory.new }
+    ensures same { batching_held L.Level opened.now memory.new ≡ batching_held L.Level opened.now memory.old }
+    ensures closes { Closes L.means L.arithmetic (batching_held L.Level opened.now memory.old) z.now result }
 {
-    let table = low_equality(heap, point)?;
-    let eq_low = table.reading();
-    Ok(Opening {
-        incoming: incoming(heap, opened.tensor.reading(), eq_low)?,
-        successor: successor_of(heap, opened, eq_low, view)?,
-        prefix: fixed_prefix(point, view),
-    })
+    opened.reduction.check_closing(z.len())?;
+    let alpha = opened.problem.challenge;
+    Ok(closing_value(
+        memory,
+        opened.layout,
+        opened.opened,
+        alpha,
+        z,
+    ))
 }

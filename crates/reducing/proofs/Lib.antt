@@ -1,4 +1,0 @@
-pub mod Stepping
-pub mod Batching
-pub mod Closing
-pub mod Reports
