@@ -3,13 +3,13 @@ use Rattle.std.specs.Prelude.{◌≡◌, ℕ, ◌+◌, ◌<◌, ◌≤◌, List,
 use Rattle.level.specs.declared.level.Level.{Ghosts}
 use Rattle.multilinear.specs.Cells.{cell, packed}
 use Rattle.multilinear.specs.Lent.{lent}
-use Rattle.ring_switch.specs.Opening.{Opening, kept}
+use Rattle.ring_switch.specs.Opening.{kept}
 use Rattle.problem.specs.Task.{Task, asked, task_of}
 use Rattle.problem.specs.declared.problem.Problem.{Problem}
-use Rattle.reduction.specs.Layout.{most, layout_end}
-use Rattle.reduction.specs.Stretch.{Stands, opening_in}
-use Rattle.reduction.specs.Worked.{Worked, Batched, batching_in}
-use Rattle.report_lines.specs.Batched.{Batching, batching_at}
+use Rattle.reduction.specs.Layout.{most, table_start, layout_end}
+use Rattle.reduction.specs.Stretch.{Stands, opening_in, rows_in}
+use Rattle.reduction.specs.Worked.{Worked, Batched}
+use Rattle.report_lines.specs.Batched.{Batching}
 use Rattle.report_lines.specs.Report.{variables_of}
 use Rattle.reducing.specs.declared.opened_problem.OpenedProblem.{OpenedProblem}
 
@@ -39,9 +39,9 @@ module _ {X : Type 0} (L : Ghosts X) where
     -- and a batching, under the problem's challenge
     pub record HoldsBatching (xs : List X) : Type 0 where
       pub tensors : HoldsTensors xs
-      pub challenged : is_some task.challenge ≡ is_some (kept L.log task.view)
+      pub challenged : is_some p.problem.now.challenge ≡ is_some (kept L.log p.opened.view)
       pub batched : Batched L p.layout.variables p.opened task.challenge xs
 
-    -- which is the batching at the point that it has
+    -- which is the opening's, by the batching weights that it has
     abbrev pub batching_held : List X → Batching L.log
-    batching_held xs = batching_at L.arithmetic (asked task) (cell task.bits) (batching_in L p.layout.variables xs) task.challenge
+    batching_held xs = record { opening = asked task; rows = rows_in L (table_start L.log p.layout.variables) xs; challenge = task.challenge }

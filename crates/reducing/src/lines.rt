@@ -1,4 +1,5 @@
 ghost use Rattle.std.specs.Prelude.{◌≡◌, ℕ, ◌/◌, ◌≤◌, ◌++◌, map, length, string_bytes, OnOk};
+ghost use Rattle.multilinear.specs.Cells.{cell};
 ghost use Rattle.report_lines.specs.Closings.{Closes, closed_text};
 ghost use Rattle.report_lines.specs.Report.{batching_text, Reported};
 ghost use Rattle.reducing.specs.Held.{HoldsBatching, batching_held};
@@ -21,7 +22,7 @@ pub(crate) fn batch_lines<L: Level>(
     memory: &[L],
 ) -> Result<(), AllocError>
     requires { HoldsBatching L.Level opened.now memory.now }
-    ensures { OnOk result (string_bytes out.new ≡ string_bytes out.old ++ batching_text L.arithmetic (batching_held L.Level opened.now memory.now)) }
+    ensures { OnOk result (string_bytes out.new ≡ string_bytes out.old ++ batching_text L.arithmetic (batching_held L.Level opened.now memory.now) (cell opened.now.problem.now.bits.items)) }
 {
     let (layout, numbers) = (opened.layout, opened.opened);
     let initial = initial_sum(memory, layout, numbers, opened.problem.challenge);

@@ -6,12 +6,11 @@ ghost use Rattle.reducing.specs.Held.{HoldsTable, HoldsTensors, task};
 
 use crate::lines::{batch_lines, closing_lines};
 use crate::opened_problem::OpenedProblem;
-use crate::steps::{open, opening_values};
+use crate::steps::{batch, open, opening_values};
 use level::level::Level;
 use packing::pack_elements;
 use problem::problem::Problem;
 use reduction::layout::Layout;
-use reduction::steps::batch;
 use replies::reporter::Reporter;
 use report_lines::finish::finish;
 use report_lines::lines::element_lines;
@@ -30,11 +29,7 @@ fn batched_lines<L: Level>(
     requires { HoldsTensors L.Level opened.now memory.old }
     ensures { Reported result (string_bytes out.new) (string_bytes out.old ++ batched_text L.arithmetic (task L.Level opened.now) (Some (map L.means batching.now))) }
 {
-    let challenge = opened.problem.challenge;
-    opened
-        .reduction
-        .check_batching(challenge.is_some(), batching.len())?;
-    batch(memory, opened.layout, opened.opened, batching, challenge);
+    batch(opened, batching, memory)?;
     batch_lines(out, opened, memory)?;
     closing_lines(out, opened, memory)
 }

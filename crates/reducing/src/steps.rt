@@ -1,10 +1,11 @@
-ghost use Rattle.std.specs.Prelude.{◌≡◌, ℕ, ◌-◌, ◌/◌, ◌<◌, ◌≤◌, length, IfOk};
-ghost use Rattle.multilinear.specs.Cells.{cell, packed};
-ghost use Rattle.multilinear.specs.Lent.{lent};
-ghost use Rattle.level.specs.Bytes.{num_bytes};
+ghost use Rattle.std.specs.Prelude.{◌≡◌, ◌-◌, map, length, IfOk};
+ghost use Rattle.std.specs.Option.{option_map};
+ghost use Rattle.multilinear.specs.Cells.{cell};
+ghost use Rattle.multilinear.specs.Equality.{equality};
 ghost use Rattle.problem.specs.Task.{asked};
 ghost use Rattle.refusals.specs.Refusals.{ring_switch_refusal, refused};
 ghost use Rattle.report_lines.specs.Opened.{open_refusal, values_at, values_of};
+ghost use Rattle.report_lines.specs.Batched.{Agree, batch_refusal};
 ghost use Rattle.report_lines.specs.Closings.{Closes};
 ghost use Rattle.reducing.specs.Held.{HoldsTable, HoldsOpening, HoldsTensors, HoldsBatching, task, batching_held};
 
@@ -39,7 +40,19 @@ pub(crate) fn open<'a, L: Level>(
     })
 }
 
-// The values of an opening, whose tensors are formed.
+// The successor claim of the tensors that the stretch has, where there is a view.
+fn successor_of<L: Level>(opened: &OpenedProblem<L>, memory: &mut [L]) -> Option<L>
+    requires { HoldsTensors L.Level opened.now memory.old }
+    ensures value { let t = task L.Level opened.now in option_map L.means result ≡ (values_at L.arithmetic (asked t) (cell t.bits)).successor }
+    ensures holds { HoldsTensors L.Level opened.now memory.new }
+{
+    match opened.problem.view {
+        Some(rows) => Some(successor_claim(memory, opened.layout, rows)),
+        None => None,
+    }
+}
+
+// The values of the opening that the stretch has: its tensors are formed, and answer them.
 pub(crate) fn opening_values<L: Level>(
     opened: &OpenedProblem<L>,
     memory: &mut [L],
@@ -50,15 +63,30 @@ pub(crate) fn opening_values<L: Level>(
 {
     steps::work(memory, opened.layout, opened.opened);
     let incoming = incoming_claim(memory, opened.layout);
-    let successor = match opened.reduction.view {
-        Some(rows) => Some(successor_claim(memory, opened.layout, rows)),
-        None => None,
-    };
     OpeningValues {
         incoming,
-        successor,
+        successor: successor_of(opened, memory),
         prefix: opened.reduction.fixed_prefix(),
     }
+}
+
+// Puts a batching into the stretch, beside the tensors.
+pub(crate) fn batch<L: Level>(
+    opened: &OpenedProblem<L>,
+    batching: &[L],
+    memory: &mut [L],
+) -> Result<(), BitRingSwitchError>
+    requires { HoldsTensors L.Level opened.now memory.old }
+    ensures refusal { let p = opened.now.problem.now in refused ring_switch_refusal result ≡ batch_refusal L.Level.log p.view p.challenge (length batching.now) }
+    ensures holds { IfOk result (λ _. HoldsBatching L.Level opened.now memory.new) }
+    ensures rows { IfOk result (λ _. Agree (batching_held L.Level opened.now memory.new).rows (equality L.arithmetic (map L.means batching.now))) }
+{
+    let challenge = opened.problem.challenge;
+    opened
+        .reduction
+        .check_batching(challenge.is_some(), batching.len())?;
+    steps::batch(memory, opened.layout, opened.opened, batching, challenge);
+    Ok(())
 }
 
 // The closing value at a point, where it has a coordinate for each of the slot's.
