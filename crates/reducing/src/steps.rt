@@ -102,11 +102,5 @@ pub(crate) fn close<L: Level>(
 {
     opened.reduction.check_closing(z.len())?;
     let alpha = opened.problem.challenge;
-    Ok(closing_value(
-        memory,
-        opened.layout,
-        opened.opened,
-        alpha,
-        z,
-    ))
+    Ok(closing_value(memory, opened.layout, opened.opened, alpha, z))
 }
