@@ -1,9 +1,8 @@
 -- What a stretch answers of a problem.
-use Rattle.std.proofs.Common.{◌≡◌, ℕ, ◌-◌, ◌^◌, ◌<◌, ◌≤◌, Bool, true, false, not, ◌&&◌, eqb, is_some, List, map, length, Some, None, refl, vec_items, Option, sym, ap, ◌∙◌, ap₂, subst, arith, pow_mono}
-use Rattle.std.specs.Option.{option_map}
+use Rattle.std.proofs.Common.{◌≡◌, ℕ, ◌-◌, ◌^◌, ◌<◌, ◌≤◌, Bool, true, false, not, ◌&&◌, eqb, is_some, List, map, length, Some, None, refl, vec_items, Option, sym, ap, ◌∙◌, ap₂, subst, arith}
 use Rattle.std.proofs.lemmas.Bool.{eqb-true}
 use lib.ListN.{length-map}
-use Rattle.level.specs.Element.{Element, width}
+use Rattle.level.specs.Element.{Element}
 use Rattle.level.specs.Laws.{Laws}
 use Rattle.level.specs.declared.level.Level.{Ghosts}
 use Rattle.multilinear.specs.Cells.{cell}

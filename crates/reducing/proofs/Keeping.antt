@@ -1,5 +1,5 @@
 -- What a stretch holds of a problem lies below a start that a step keeps.
-use Rattle.std.proofs.Common.{◌≡◌, ℕ, ◌+◌, ◌-◌, ◌^◌, ◌<◌, ◌≤◌, List, length, take, is_some, sym, ap, ◌∙◌, subst, arith}
+use Rattle.std.proofs.Common.{◌≡◌, ℕ, ◌≤◌, List, length, take, is_some, sym, ap, ◌∙◌, subst, arith}
 use Rattle.level.specs.Element.{Element}
 use Rattle.level.specs.Laws.{Laws}
 use Rattle.level.specs.declared.level.Level.{Ghosts}

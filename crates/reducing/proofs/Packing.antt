@@ -1,5 +1,5 @@
 -- The packed elements of a problem's table in a stretch.
-use Rattle.std.proofs.Common.{◌≡◌, ℕ, ◌+◌, ◌-◌, ◌*◌, ◌/◌, ◌^◌, ◌<◌, ◌≤◌, min, List, length, take, None, vec_items, codes, zero-add, length-take-le, sym, ap, ◌∙◌, subst, mul-div_cancel, arith, lit<, pow_mono}
+use Rattle.std.proofs.Common.{◌≡◌, ℕ, ◌+◌, ◌-◌, ◌/◌, ◌^◌, ◌<◌, ◌≤◌, List, length, take, None, vec_items, codes, zero-add, length-take-le, ap, ◌∙◌, subst, mul-div_cancel, arith, pow_mono}
 use Rattle.level.specs.Bytes.{num_bytes}
 use Rattle.level.specs.declared.level.Level.{Ghosts}
 use Rattle.element_text.specs.Hex.{shown_bytes, element_text}

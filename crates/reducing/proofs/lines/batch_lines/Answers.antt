@@ -1,13 +1,9 @@
-use Rattle.std.proofs.Common.{◌≡◌, ℕ, ◌<◌, List, ◌++◌, length, vec_items, is_some, string_bytes, codes, sym, ap, ◌∙◌, subst}
+use Rattle.std.proofs.Common.{◌≡◌, ℕ, List, ◌++◌, length, vec_items, string_bytes, codes, ap, ◌∙◌}
 use Rattle.std.proofs.lemmas.Result.{on_ok_weaker}
 use Rattle.element_text.specs.Hex.{element_text}
 use Rattle.multilinear.specs.Cells.{cell}
 use Rattle.multilinear.specs.Lent.{lent}
-use Rattle.ring_switch.specs.Opening.{kept_rows}
-use Rattle.ring_switch.specs.Slots.{slot_count, slot_table}
-use Rattle.ring_switch.specs.Batching.{weight}
-use Rattle.reduction.specs.Layout.{table_start}
-use Rattle.reduction.specs.Stretch.{rows_in}
+use Rattle.ring_switch.specs.Slots.{slot_count}
 use Rattle.problem.specs.Task.{asked}
 use Rattle.report_lines.specs.Batched.{initial}
 use Rattle.report_lines.specs.Lines.{line}

@@ -1,4 +1,4 @@
-use Rattle.std.proofs.Common.{◌≡◌, ◌++◌, string_bytes, ap, ◌∙◌, refl, subst, rules}
+use Rattle.std.proofs.Common.{◌≡◌, ◌++◌, string_bytes, ◌∙◌, refl, subst, rules}
 use Rattle.std.proofs.lemmas.Fn.{answers_by}
 use denote.Param.Always.{mut_by}
 use Rattle.report_lines.specs.Closings.{Closes, closed_text}

@@ -1,4 +1,4 @@
-use Rattle.std.proofs.Common.{◌≡◌, List, ◌++◌, map, length, is_some, vec_items, string_bytes, Vec, sym, refl, ap, ap₂, ◌∙◌, subst}
+use Rattle.std.proofs.Common.{map, length, string_bytes, sym, refl, subst}
 use lib.ListN.{length-map}
 use Rattle.std.proofs.lemmas.Result.{err_from_is_err_and}
 use Rattle.problem.proofs.Optional.{some_mapped}

@@ -1,4 +1,4 @@
-use Rattle.std.proofs.Common.{◌≡◌, ◌+◌, ◌-◌, ◌++◌, map, length, Some, vec_items, string_bytes, Option, Vec, sym, refl, ap, ◌∙◌, subst, arith}
+use Rattle.std.proofs.Common.{◌≡◌, ◌-◌, ◌++◌, map, length, Some, vec_items, string_bytes, Option, Vec, sym, refl, ap, ◌∙◌, subst, arith}
 use lib.ListN.{length-map}
 use Rattle.std.proofs.lemmas.List.{append-nil}
 use Rattle.std.proofs.lemmas.Result.{err_from_is_err_and}
@@ -8,7 +8,7 @@ use Rattle.multilinear.specs.Cells.{cell}
 use Rattle.multilinear.specs.Equality.{Point}
 use Rattle.report_lines.specs.Opened.{values_of, values_at}
 use Rattle.problem.specs.Task.{Task, task_of, asked}
-use Rattle.report_lines.specs.Report.{Reported, variables_of, batched_text, opened_text}
+use Rattle.report_lines.specs.Report.{Reported, batched_text, opened_text}
 use Rattle.report_lines.proofs.Reporting.{opening_refused, opening_passed}
 use Rattle.reducing.specs.Held.{task}
 use Rattle.reducing.proofs.report.opened_lines.Given as given

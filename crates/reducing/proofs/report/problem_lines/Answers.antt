@@ -1,15 +1,11 @@
-use Rattle.std.proofs.Common.{◌≡◌, ℕ, ◌+◌, ◌-◌, ◌/◌, ◌^◌, ◌≤◌, ◌<◌, ◌++◌, List, length, string_bytes, codes, sym, ap, ◌∙◌, refl, subst, arith, length-take-le}
+use Rattle.std.proofs.Common.{◌≡◌, ℕ, ◌+◌, ◌/◌, ◌^◌, ◌≤◌, ◌++◌, length, string_bytes, sym, ap, ◌∙◌, refl, subst, arith, length-take-le}
 use Rattle.level.specs.Bytes.{num_bytes}
 use Rattle.std.proofs.lemmas.Result.{err_from_is_err_and}
-use Rattle.element_text.specs.Hex.{element_text}
 use Rattle.multilinear.specs.Cells.{cell}
-use Rattle.multilinear.specs.Lent.{lent}
 use Rattle.problem.specs.Task.{task_of}
-use Rattle.report_lines.specs.Lines.{line}
 use Rattle.report_lines.specs.Report.{Reported, lines_below, packed_line}
 use Rattle.report_lines.proofs.Reporting.{packing_refused, packing_passed}
-use Rattle.report_lines.proofs.Writing.{below_same}
-use Rattle.reduction.specs.Layout.{most, layout_end}
+use Rattle.reduction.specs.Layout.{layout_end}
 use Rattle.reducing.proofs.Packing.{Sized, sized, most_is, table_packed, packed_lines}
 use Rattle.reducing.proofs.report.problem_lines.Given as given
 use Rattle.reducing.proofs.report.problem_lines.Goals as goal

@@ -1,11 +1,10 @@
-use Rattle.std.proofs.Common.{◌≡◌, length, None, map, sym, ap, ◌∙◌, arith}
-use Rattle.std.proofs.lemmas.Bool.{eqb-true}
+use Rattle.std.proofs.Common.{◌≡◌, length, None, sym, ap, ◌∙◌, arith}
 use Rattle.ring_switch.specs.Opening.{rest}
 use Rattle.refusals.specs.Steps.{closing}
 use Rattle.problem.specs.Task.{asked}
 use Rattle.reduction.specs.Layout.{scratch_start}
 use Rattle.reducing.specs.Held.{task}
-use Rattle.reducing.proofs.Keeping.{asked_is, held_kept, batching_kept}
+use Rattle.reducing.proofs.Keeping.{held_kept, batching_kept}
 use Rattle.reducing.proofs.Answered.{closing_held, closing_fits, closing_tested}
 use Rattle.reducing.proofs.steps.close.Given as given
 use Rattle.reducing.proofs.steps.close.Goals as goal

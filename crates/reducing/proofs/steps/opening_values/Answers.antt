@@ -1,7 +1,6 @@
 use Rattle.std.proofs.Common.{ap, ◌∙◌, arith}
 use Rattle.ring_switch.specs.Opening.{prefix}
 use Rattle.reduction.specs.Layout.{scratch_start}
-use Rattle.reducing.specs.Held.{HoldsTensors}
 use Rattle.reducing.proofs.Keeping.{asked_is, tensors_formed, tensors_kept}
 use Rattle.reducing.proofs.Answered.{values_are, incoming_held}
 use Rattle.reducing.proofs.steps.opening_values.Goals as goal
