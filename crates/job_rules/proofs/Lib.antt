@@ -1,0 +1,5 @@
+pub mod Largest
+pub mod Counted
+pub mod Reaching
+pub mod Standing
+pub mod Living
