@@ -1,5 +1,5 @@
 -- What was told in a run obeys its law.
-use Rattle.std.proofs.Common.{◌≡◌, ℕ, zero, suc, List, [], ◌∷◌, take, drop, sym, ap, ◌∙◌, subst, arith}
+use Rattle.std.proofs.Common.{◌≡◌, ℕ, zero, suc, List, [], ◌∷◌, take, drop, ap, ◌∙◌, arith}
 use Rattle.level.specs.Element.{Element}
 use Rattle.level.specs.Laws.{Arithmetic}
 use Rattle.job_rules.specs.Ledger.{Ledger, empty}
@@ -7,7 +7,7 @@ use Rattle.job_rules.specs.Lived.{At, Met, WeightsTold, Lived}
 use Rattle.job_rules.specs.Replies.{Reply, reply}
 use Rattle.job_rules.specs.Requests.{Request}
 use Rattle.job_rules.specs.Requests.Request.{IncomingClaim, SuccessorClaim, InitialSum, WeightCount, Weight, ClosingValue}
-use Rattle.job_rules.specs.Runs.{after, after_all, replies, before}
+use Rattle.job_rules.specs.Runs.{after, after_all, replies}
 use Rattle.job_rules.proofs.Reaching.{all_reached}
 use Rattle.job_rules.proofs.Standing.{Tells, Stands, stands}
 

@@ -1,5 +1,5 @@
 -- Every ledger that a list reaches is as such ledgers are.
-use Rattle.std.proofs.Common.{◌≡◌, ℕ, ◌+◌, ◌-◌, ◌*◌, ◌/◌, ◌%◌, ◌^◌, ◌<◌, ◌≤◌, Bool, true, false, not, cond, ◌&&◌, ltb, is_some, List, [], ◌∷◌, length, Some, None, Option, sym, refl, ap, arith, mod-lt, get_or, pow_pos}
+use Rattle.std.proofs.Common.{◌≡◌, ℕ, ◌-◌, ◌*◌, ◌/◌, ◌%◌, ◌^◌, ◌<◌, ◌≤◌, Bool, true, false, not, cond, ◌&&◌, ltb, is_some, List, [], ◌∷◌, length, Some, None, Option, sym, refl, ap, arith, mod-lt, get_or, pow_pos}
 use Rattle.std.proofs.lemmas.List.{get_or_past}
 use Rattle.std.proofs.lemmas.Bool.{leb-true, ltb-false, eqb-true}
 use Rattle.level.specs.Element.{Element}
@@ -7,7 +7,6 @@ use Rattle.level.specs.Laws.{Arithmetic}
 use Rattle.multilinear.specs.Cells.{cell}
 use Rattle.multilinear.specs.Equality.{Point}
 use Rattle.ring_switch.specs.Opening.{Opening, View, named, variables, kept}
-use Rattle.ring_switch.specs.ClaimLaws.{Binary}
 use Rattle.refusals.specs.Refusals.{Refusal}
 use Rattle.refusals.specs.Steps as step
 use Rattle.job_rules.specs.Capacity.{capacity, told_capacity}

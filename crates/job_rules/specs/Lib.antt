@@ -7,3 +7,5 @@ pub mod Replies
 pub mod Runs
 pub mod Reaching
 pub mod Lived
+pub mod Tensors
+pub mod Fitting

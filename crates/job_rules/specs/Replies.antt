@@ -4,8 +4,8 @@ use Rattle.level.specs.Element.{Element}
 use Rattle.level.specs.Laws.{Arithmetic}
 use Rattle.multilinear.specs.Sums.{sum}
 use Rattle.multilinear.specs.Cells.{packed}
-use Rattle.multilinear.specs.Equality.{Point, equality, multilinear}
-use Rattle.ring_switch.specs.Opening.{View, kept_rows}
+use Rattle.multilinear.specs.Equality.{equality, multilinear}
+use Rattle.ring_switch.specs.Opening.{kept_rows}
 use Rattle.ring_switch.specs.Slots.{slot_table, slot_count, in_slot}
 use Rattle.ring_switch.specs.ClaimLaws.{value, value_one_row_on}
 use Rattle.ring_switch.specs.Batching.{weight}

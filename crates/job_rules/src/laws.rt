@@ -2,8 +2,10 @@
 ghost use Rattle.std.specs.Prelude.{◌≡◌, ℕ, Some, None};
 ghost use Rattle.job_rules.specs.Capacity.{capacity, CapacityIsLargest};
 ghost use Rattle.job_rules.specs.Ledger.{CellsAreCounted};
+ghost use Rattle.job_rules.specs.Fitting.{FittingStepsBatch};
 ghost use Rattle.job_rules.specs.Lived.{AlwaysLived};
 ghost use Rattle.job_rules.specs.Reaching.{AllReached};
+ghost use Rattle.job_rules.specs.Tensors.{AlwaysByTensors};
 
 // The capacity is the largest number of coordinates whose budget so many elements meet, with figures of the tower byte.
 pub fn capacities_stand()
@@ -28,4 +30,14 @@ pub fn jobs_reach()
 // The law of every run: what the replies to a list of requests tell.
 pub fn jobs_live()
     ensures { AlwaysLived }
+{}
+
+// Steps that fit one another are not refused, and the ledger has what they wrote.
+pub fn fitting_steps_batch()
+    ensures { FittingStepsBatch }
+{}
+
+// The answers are also those that the reduction forms: claims from the columns of tensors, and batched rows.
+pub fn answers_are_reduced()
+    ensures { AlwaysByTensors }
 {}

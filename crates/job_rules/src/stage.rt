@@ -41,3 +41,25 @@ impl Stage {
         }
     }
 }
+
+#[cfg(test)]
+mod tests {
+    use super::*;
+    use doubling::bit::Bit;
+    use doubling::doubling::Doubling;
+
+    // The level of log width 3 over the bit.
+    type Eight = Doubling<Doubling<Doubling<Bit>>>;
+
+    #[test]
+    fn work_waits_for_an_opening(rt: HostRuntime) {
+        assert_eq!(rt;
+            Stage::Packed.admit::<Eight>(&Call::Work),
+            Err(JobFault::OutOfStage)
+        );
+        assert_eq!(rt;
+            Stage::Batched.admit::<Eight>(&Call::Work),
+            Ok(Stage::Worked)
+        );
+    }
+}
