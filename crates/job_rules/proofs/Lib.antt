@@ -5,3 +5,5 @@ pub mod Standing
 pub mod Living
 pub mod Tensors
 pub mod Fitting
+pub mod Runs
+pub mod Asking

@@ -1,5 +1,5 @@
 -- The law of a run: what is told to a list of requests.
-use Rattle.std.specs.Prelude.{◌≡◌, ℕ, ◌<◌, ◌≤◌, List, [], ◌∷◌, length, take, drop, Some}
+use Rattle.std.specs.Prelude.{◌≡◌, ℕ, ◌<◌, ◌≤◌, List, [], ◌∷◌, ◌++◌, length, take, drop, Some}
 use Rattle.level.specs.Element.{Element}
 use Rattle.level.specs.Laws.{Arithmetic}
 use Rattle.multilinear.specs.Equality.{Point, multilinear}
@@ -12,7 +12,7 @@ use Rattle.job_rules.specs.Replies.{Reply, reply, weight_of, weighed}
 use Rattle.job_rules.specs.Replies.Reply.{Value, Number}
 use Rattle.job_rules.specs.Requests.{Request}
 use Rattle.job_rules.specs.Requests.Request.{IncomingClaim, SuccessorClaim, InitialSum, WeightCount, Weight, ClosingValue}
-use Rattle.job_rules.specs.Runs.{replies, before}
+use Rattle.job_rules.specs.Runs.{after_all, replies, before, weights_asked}
 use Rattle.job_rules.specs.Stages.{rank}
 use Rattle.job_rules.specs.declared.stage.Stage.TheVariants.{Batched}
 
@@ -51,3 +51,9 @@ pub record Lived {k : ℕ} (A : Arithmetic k) (size : ℕ) (requests : List (Req
 
 abbrev pub AlwaysLived : Type 0
 AlwaysLived = (k : ℕ) (A : Arithmetic k) (size : ℕ) (requests : List (Request k)) (told : List (Reply k)) → told ≡ replies A size empty requests → Lived A size requests told
+
+-- a batched job that is asked for each weight, index 0 first, has told them all
+abbrev pub WeightsAreTold : Type 0
+WeightsAreTold =
+    (k : ℕ) (A : Arithmetic k) (size : ℕ) (requests : List (Request k)) (l : Ledger k) → after_all A size empty requests ≡ l → l.stage ≡ Batched
+    → let run = requests ++ weights_asked 0 (slot_count A l.opening) in WeightsTold A size run (replies A size empty run) l (weight_of A l)

@@ -3,7 +3,7 @@ ghost use Rattle.std.specs.Prelude.{◌≡◌, ℕ, Some, None};
 ghost use Rattle.job_rules.specs.Capacity.{capacity, CapacityIsLargest};
 ghost use Rattle.job_rules.specs.Ledger.{CellsAreCounted};
 ghost use Rattle.job_rules.specs.Fitting.{FittingStepsBatch};
-ghost use Rattle.job_rules.specs.Lived.{AlwaysLived};
+ghost use Rattle.job_rules.specs.Lived.{AlwaysLived, WeightsAreTold};
 ghost use Rattle.job_rules.specs.Reaching.{AllReached};
 ghost use Rattle.job_rules.specs.Tensors.{AlwaysByTensors};
 
@@ -40,4 +40,9 @@ pub fn fitting_steps_batch()
 // The answers are also those that the reduction forms: claims from the columns of tensors, and batched rows.
 pub fn answers_are_reduced()
     ensures { AlwaysByTensors }
+{}
+
+// After any list that ends batched, the questions for each weight have every weight told at that ledger.
+pub fn weights_are_told()
+    ensures { WeightsAreTold }
 {}
