@@ -1,0 +1,9 @@
+pub mod Largest
+pub mod Counted
+pub mod Reaching
+pub mod Standing
+pub mod Living
+pub mod Tensors
+pub mod Fitting
+pub mod Runs
+pub mod Asking

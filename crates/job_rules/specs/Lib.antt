@@ -1,0 +1,11 @@
+pub mod Requests
+pub mod Stages
+pub mod Capacity
+pub mod Ledger
+pub mod JobRefusals
+pub mod Replies
+pub mod Runs
+pub mod Reaching
+pub mod Lived
+pub mod Tensors
+pub mod Fitting
