@@ -1,3 +1,5 @@
 mod MemoryWords
 mod Only
+mod Reading
+mod Replying
 mod Splitting

@@ -1,30 +1,23 @@
 -- A text by its first line and the cases after it, and the replies by the first case.
-use Rattle.std.proofs.Common.{◌≡◌, ℕ, zero, suc, ◌+◌, ◌-◌, ◌<◌, true, false, eqb, List, [], ◌∷◌, ◌++◌, length, get_or, take, drop, refl, sym, ap, ap₂, ◌∙◌, subst, append_assoc, append-nil, take-add, drop-drop, take-append-drop, bytes_eq, arith}
-use Rattle.std.proofs.lemmas.Bool.{cond_both, cond-true, cond-false, eq-eqb, ne_eqb, false_from_ne_true}
-use Rattle.std.proofs.lemmas.List.{take_rest}
-use Rattle.std.proofs.lemmas.Slice.Eq.{bytes_eq-Decides}
+use Rattle.std.proofs.Common.{◌≡◌, ℕ, ◌<◌, Bool, true, false, List, [], ◌∷◌, ◌++◌, length, refl, sym, ap, ◌∙◌, subst, append_assoc, append-nil, cond, ◌==◌, bytes_eq, arith}
+use Rattle.std.proofs.lemmas.Bool.{cond_both, cond-true, cond-false}
+use Rattle.std.specs.Io.BufRead.{take_through, drop_through}
 use Rattle.explain_input.specs.Keys.{in_front}
 use Rattle.report_lines.specs.Replies.{Reply}
 use Rattle.replies.specs.Cases.{between, whole_lines, in_first, stretches, cases, Replies}
 
--- the first line ends at the first newline
-line_at : (text : List ℕ) (n : ℕ) → n < length text → ((i : ℕ) → i < n → get_or text i 0 ≡ 10 → ⊥) → get_or text n 0 ≡ 10
-    → whole_lines text ≡ take (suc n) text ∷ whole_lines (drop (suc n) text)
-unfolding whole_lines
-line_at [] n h before found = absurd (omega arith)
-line_at (c ∷ text) zero h before found = cond-true (eqb c 10) _ _ (eq-eqb c 10 found)
-line_at (c ∷ text) (suc n) h before found =
-    cond-false (eqb c 10) _ _ (ne_eqb c 10 (before 0 (omega arith)))
-    ∙ ap (in_front c) (line_at text n (omega arith) (λ i l. before (suc i) (omega arith)) found)
+-- a text whose first byte is a newline or not, by its first line
+by_first : (newline : Bool) (c : ℕ) (text : List ℕ) → in_front c (whole_lines text) ≡ (c ∷ take_through 10 text) ∷ whole_lines (drop_through 10 text)
+    → cond newline ((c ∷ []) ∷ whole_lines text) (in_front c (whole_lines text))
+    ≡ cond newline (c ∷ []) (c ∷ take_through 10 text) ∷ whole_lines (cond newline text (drop_through 10 text))
+by_first true c text more = refl
+by_first false c text more = more
 
--- a text without a newline is one line
-one_line : (text : List ℕ) → 0 < length text → ((i : ℕ) → i < length text → get_or text i 0 ≡ 10 → ⊥) → whole_lines text ≡ text ∷ []
+-- the lines of a text that has a byte: the first ends at the first newline, or with the text
+first_line : (c : ℕ) (text : List ℕ) → whole_lines (c ∷ text) ≡ take_through 10 (c ∷ text) ∷ whole_lines (drop_through 10 (c ∷ text))
 unfolding whole_lines
-one_line [] h before = absurd (omega arith)
-one_line (c ∷ []) h before = cond-false (eqb c 10) _ _ (ne_eqb c 10 (before 0 (omega arith)))
-one_line (c ∷ d ∷ text) h before =
-    cond-false (eqb c 10) _ _ (ne_eqb c 10 (before 0 (omega arith)))
-    ∙ ap (in_front c) (one_line (d ∷ text) (omega arith) (λ i l. before (suc i) (omega arith)))
+first_line c [] = by_first (c == 10) c [] refl
+first_line c (d ∷ text) = by_first (c == 10) c (d ∷ text) (ap (in_front c) (first_line d text))
 
 in_first_twice : (a b : List ℕ) (ls : List (List ℕ)) → in_first a (in_first b ls) ≡ in_first (a ++ b) ls
 in_first_twice a b [] = refl
@@ -49,56 +42,30 @@ stretches_kept (l ∷ ls) =
 pub in_first_none : (text : List ℕ) → cases text ≡ in_first [] (cases text)
 in_first_none text = stretches_kept (whole_lines text)
 
--- one line further into a text, from s on
-module _ (text : List ℕ) (s n : ℕ) (rest : List ℕ) (is : rest ≡ drop s text) (h : n < length rest) (before : (i : ℕ) → i < n → get_or rest i 0 ≡ 10 → ⊥)
-    (found : get_or rest n 0 ≡ 10) (first : cases text ≡ in_first (take s text) (cases (drop s text))) where
-  line_is : take (s + n + 1 - s) (drop s text) ≡ take (suc n) rest
-  line_is = ap₂ take (let e : s + n + 1 - s ≡ suc n = omega arith in e) (sym is)
+-- one line further into a text: case has been read of it, and left is to be read
+module _ (text case left : List ℕ) (some : 0 < length (take_through 10 left)) (first : cases text ≡ in_first case (cases left)) where
+  begun : (left : List ℕ) → 0 < length (take_through 10 left) → cases left ≡ stretches (take_through 10 left ∷ whole_lines (drop_through 10 left))
+  begun [] none = absurd (omega (arith, none))
+  begun (c ∷ more) h = ap stretches (first_line c more)
 
-  place : s + suc n ≡ s + n + 1
-  place = omega arith
-
-  further : drop (suc n) rest ≡ drop (s + n + 1) text
-  further = ap (drop (suc n)) is ∙ drop-drop (suc n) s text ∙ ap (λ k. drop k text) place
-
-  begun : cases text ≡ in_first (take s text) (stretches (take (suc n) rest ∷ whole_lines (drop (suc n) rest)))
-  begun = first ∙ ap (λ l. in_first (take s text) (cases l)) (sym is) ∙ ap (λ ls. in_first (take s text) (stretches ls)) (line_at rest n h before found)
-
-  pub past_line : bytes_eq (take (s + n + 1 - s) (drop s text)) between ≡ false → cases text ≡ in_first (take (s + n + 1) text) (cases (drop (s + n + 1) text))
+  pub past_line : bytes_eq (take_through 10 left) between ≡ false → cases text ≡ in_first (case ++ take_through 10 left) (cases (drop_through 10 left))
   unfolding stretches
   past_line differs =
-      begun
-      ∙ ap (in_first (take s text)) (cond-false (bytes_eq (take (suc n) rest) between) _ _ (ap (λ l. bytes_eq l between) (sym line_is) ∙ differs))
-      ∙ in_first_twice (take s text) (take (suc n) rest) _
-      ∙ ap (λ l. in_first l (cases (drop (suc n) rest))) (ap (λ l. take s text ++ take (suc n) l) is ∙ sym (take-add s (suc n) text) ∙ ap (λ k. take k text) place)
-      ∙ ap (λ l. in_first (take (s + n + 1) text) (cases l)) further
+      first ∙ ap (in_first case) (begun left some)
+      ∙ ap (in_first case) (cond-false (bytes_eq (take_through 10 left) between) _ _ differs)
+      ∙ in_first_twice case (take_through 10 left) _
 
-  pub at_line : bytes_eq (take (s + n + 1 - s) (drop s text)) between ≡ true → cases text ≡ take s text ∷ cases (take (length text - (s + n + 1)) (drop (s + n + 1) text))
+  pub at_line : bytes_eq (take_through 10 left) between ≡ true → cases text ≡ case ∷ cases (drop_through 10 left)
   unfolding stretches
   at_line same =
-      begun
-      ∙ ap (in_first (take s text)) (cond-true (bytes_eq (take (suc n) rest) between) _ _ (ap (λ l. bytes_eq l between) (sym line_is) ∙ same))
-      ∙ ap (λ l. l ∷ cases (drop (suc n) rest)) (append-nil (take s text))
-      ∙ ap (λ l. take s text ∷ cases l) (further ∙ sym (take_rest text (s + n + 1)))
+      first ∙ ap (in_first case) (begun left some)
+      ∙ ap (in_first case) (cond-true (bytes_eq (take_through 10 left) between) _ _ same)
+      ∙ ap (λ l. l ∷ cases (drop_through 10 left)) (append-nil case)
 
--- the line between cases has a newline
-no_break : (text : List ℕ) → ((i : ℕ) → i < length text → get_or text i 0 ≡ 10 → ⊥) → bytes_eq text between ≡ false
-no_break text none = false_from_ne_true (bytes_eq text between) (λ e. let is = (bytes_eq-Decides text between).0 e in
-    none 2 (let l : length text ≡ 3 = ap length is in omega (arith, l)) (ap (λ l. get_or l 2 0) is))
-
--- a text without a newline is one case
-only_case : (text : List ℕ) → ((i : ℕ) → i < length text → get_or text i 0 ≡ 10 → ⊥) → cases text ≡ text ∷ []
+-- nothing is left of the text
+pub last_case : (text case : List ℕ) → cases text ≡ in_first case (cases []) → cases text ≡ case ∷ []
 unfolding stretches whole_lines
-only_case [] none = refl
-only_case (c ∷ text) none =
-    ap stretches (one_line (c ∷ text) (omega arith) none) ∙ cond-false (bytes_eq (c ∷ text) between) _ _ (no_break (c ∷ text) none) ∙ ap (λ l. l ∷ []) (append-nil (c ∷ text))
-
--- no newline from s on
-pub last_case : (text : List ℕ) (s : ℕ) (rest : List ℕ) → rest ≡ drop s text → ((i : ℕ) → i < length rest → get_or rest i 0 ≡ 10 → ⊥)
-    → cases text ≡ in_first (take s text) (cases (drop s text)) → cases text ≡ text ∷ []
-last_case text s rest is none first =
-    first ∙ ap (λ l. in_first (take s text) (cases l)) (sym is) ∙ ap (in_first (take s text)) (only_case rest none)
-    ∙ ap (λ l. (take s text ++ l) ∷ []) is ∙ ap (λ l. l ∷ []) (take-append-drop s text)
+last_case text case first = first ∙ ap (λ l. l ∷ []) (append-nil case)
 
 -- done stands before what is written for the cases ls, so that the whole is what is written for all
 abbrev pub Before : List ℕ → List (List ℕ) → List (List ℕ) → Type 0

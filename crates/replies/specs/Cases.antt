@@ -1,5 +1,5 @@
 -- The cases of a text, between which lines `--` stand, and the replies to them.
-use Rattle.std.specs.Prelude.{◌≡◌, ℕ, cond, List, [], ◌∷◌, ◌++◌, codes, ◌==◌, bytes_eq}
+use Rattle.std.specs.Prelude.{◌≡◌, ℕ, cond, List, [], ◌∷◌, ◌++◌, codes, ◌==◌, bytes_eq, Bool, Option, Some, if◌then◌else◌}
 use Rattle.explain_input.specs.Keys.{in_front}
 use Rattle.report_lines.specs.Replies.{Reply}
 
@@ -25,6 +25,10 @@ stretches (line ∷ lines) = cond (bytes_eq line between) ([] ∷ stretches line
 -- the cases of a text
 abbrev pub cases : List ℕ → List (List ℕ)
 cases text = stretches (whole_lines text)
+
+-- a case that was read off a text, what is left of the text, where another case follows, and whether one does
+abbrev pub CaseRead : List ℕ → List ℕ → Option (List ℕ) → Bool → Type 0
+CaseRead text case left more = (rest : List ℕ) × (left ≡ Some rest) × (cases text ≡ case ∷ (if more then cases rest else []))
 
 -- what is written for cases: a reply to each, in their order, with a line `--` between
 unfoldable pub Replies : List (List ℕ) → List ℕ → Type 0

@@ -1,28 +1,19 @@
-use Rattle.std.proofs.Common.{◌++◌, ap, subst, ◌∙◌}
-use Rattle.std.proofs.lemmas.Option.{IfSome_then}
-use Rattle.std.proofs.lemmas.Result.{on_ok_weaker}
-use Rattle.std.proofs.KnownBytes.{Appends-trans}
-use Rattle.replies.specs.Cases.{between, cases, Replies}
-use Rattle.replies.proofs.Splitting.{before_more, before_none}
+use Rattle.std.proofs.Common.{subst, rules}
+use Rattle.std.specs.Io.Buffered.{reader_remaining}
+use Rattle.report_lines.specs.Replies.{Reply}
+use Rattle.replies.proofs.Replying.{more_answered, all_answered}
 use Rattle.replies.proofs.program.answer_cases_to.Goals as goal
 
-pub loop-case-preserved : goal.loop-case-preserved
-loop-case-preserved g c = λ h.
-    let so_far = c.loop-case.invariant h in
-    let reply = c.in_ok-write_reply.ensures h in (
-      so_far.0 ++ (reply.0 ++ between),
-      Appends-trans _ _ _ so_far.0 (reply.0 ++ between) so_far.1 (Appends-trans _ _ _ reply.0 between reply.2 c.in_ok-write_all.ensures.bytes),
-      before_more so_far.0 _ _ so_far.2 _ reply.0 reply.1 _ c.in-Some.ensures.splits,
-    )
+pub loop-preserved : goal.loop-preserved
+loop-preserved g c = λ h.
+    let reply = c.in_ok-write_reply.ensures h in
+    more_answered (g.R.Read.remaining c.args.reader.now) (reader_remaining (λ r. g.R.Read.remaining r.now) c.loop.input) (reader_remaining (λ r. g.R.Read.remaining r.now) c.read_case.new.input) (g.W.Write.contents c.args.writer.now) (g.W.Write.contents c.loop.writer)
+    c.read_case.new.case.items c.in_ok-more.more (c.loop.invariant h) c.in_ok-more.ensures reply.0 (subst (λ text. Reply text reply.0) c.as_slice.ensures.value reply.1)
+    (g.W.Write.contents c.write_reply.new.writer) (g.W.Write.contents c.write_all.new.self) (search rules) reply.2 c.in_ok-write_all.ensures.bytes
 
-pub returns : goal.returns
-returns g c = λ h.
-    let so_far = c.loop-case.invariant h in
-    on_ok_weaker c.write_reply-2.result
-    (λ reply. IfSome_then (g.R.Read.remaining c.args.reader.now) c.in_ok-read_to_end.ensures.bytes (λ text is. (
-      so_far.0 ++ reply.0,
-      subst (λ t. Replies (cases t) (so_far.0 ++ reply.0)) (c.as_slice-rest.ensures.value ∙ is ∙ ap (λ l. l ++ text) c.new-input.ensures.items)
-          (before_none so_far.0 _ _ so_far.2 _ reply.0 reply.1 c.in_default.ensures.splits),
-      Appends-trans _ _ _ so_far.0 reply.0 so_far.1 reply.2,
-    )))
-    (c.write_reply-2.ensures h)
+pub returns-then-not-more : goal.returns-then-not-more
+returns-then-not-more g c = λ h.
+    let reply = c.in_ok-write_reply.ensures h in
+    all_answered (g.R.Read.remaining c.args.reader.now) (reader_remaining (λ r. g.R.Read.remaining r.now) c.loop.input) (reader_remaining (λ r. g.R.Read.remaining r.now) c.read_case.new.input) (g.W.Write.contents c.args.writer.now) (g.W.Write.contents c.loop.writer)
+    c.read_case.new.case.items c.in_ok-more.more (c.loop.invariant h) c.in_ok-more.ensures reply.0 (subst (λ text. Reply text reply.0) c.as_slice.ensures.value reply.1)
+    (g.W.Write.contents c.write_reply.new.writer) (search rules) reply.2
