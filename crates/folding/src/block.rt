@@ -28,7 +28,7 @@ pub(crate) fn add_exterior_product<L: Level>(rows: &mut [L], a: L, b: L)
     ensures { lent L.means rows.new ≡ add (lent L.means rows.old) (exterior (L.means a) (L.means b)) }
 {
     let mut tensor = BitTensor { rows };
-    tensor.add_exterior_product(a, b);
+    tensor.add_dense_product(a, b);
 }
 
 // Adds the sum of left[j] ⊗ right[j], its columns scaled by a weight.

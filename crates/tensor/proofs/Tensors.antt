@@ -1,11 +1,11 @@
 -- Tensors row by row: what their definitions have at one row, and past the last.
-use Rattle.std.proofs.Common.{◌≡◌, ℕ, ◌≤◌, refl, ap, ◌∙◌, ap₂}
+use Rattle.std.proofs.Common.{◌≡◌, ◌==◌, ℕ, zero, suc, Bool, true, false, ◌<◌, ◌≤◌, refl, sym, ap, ◌∙◌, ap₂, arith}
 use mathlib.Core.Path.{fun_ext}
 use Rattle.level.specs.Element.{Element, width, coordinate, plus, zeros}
 use Rattle.level.specs.Laws.{Arithmetic, Laws}
 use Rattle.level.proofs.Elements.{plus_zeros, zeros_plus}
 use Rattle.level.proofs.Ring.{times_zeros}
-use Rattle.multilinear.specs.Sums.{at_bit}
+use Rattle.multilinear.specs.Sums.{at_bit, where_set}
 use Rattle.multilinear.proofs.Coordinates.{coordinate_past}
 use Rattle.tensor_algebra.specs.Tensor.{Tensor, nothing, exterior, add, scale_rows}
 
@@ -38,6 +38,22 @@ module _ {k : ℕ} where
   pub scale_rows_past : {A : Arithmetic k} → Laws A → (b : Element k) (t : Tensor k) (u : ℕ) → t u ≡ zeros k → scale_rows A b t u ≡ zeros k
   unfolding scale_rows
   scale_rows_past {A} laws b t u e = ap (A.times b) e ∙ times_zeros laws b
+
+  -- a row with b added or not, by the bit
+  pub added_where_set : (set : Bool) (x b y : Element k) → set ≡ true → y ≡ plus x b → y ≡ plus x (where_set set b)
+  unfolding where_set
+  added_where_set set x b y e made = made ∙ ap (λ n. plus x (where_set n b)) (sym e)
+
+  pub kept_where_clear : (set : Bool) (x b : Element k) → set ≡ false → x ≡ plus x (where_set set b)
+  unfolding where_set
+  kept_where_clear set x b e = sym (ap (λ n. plus x (where_set n b)) e ∙ plus_zeros x)
+
+  -- a binary digit as a bit
+  pub digit_set : (c : ℕ) (b : Element k) → c < 2 → where_set (c == 1) b ≡ at_bit c b
+  unfolding where_set at_bit
+  digit_set zero b h = refl
+  digit_set (suc zero) b h = refl
+  digit_set (suc (suc c)) b h = absurd (omega arith)
 
   -- the zero tensor adds nothing
   pub nothing_add : (t : Tensor k) → add nothing t ≡ t

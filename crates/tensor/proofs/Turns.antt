@@ -1,6 +1,7 @@
 -- One turn of the loops over rows, and what they end with.
-use Rattle.std.proofs.Common.{◌≡◌, ℕ, zero, suc, ◌+◌, ◌-◌, ◌*◌, ◌/◌, ◌%◌, ◌^◌, ◌<◌, ◌≤◌, min, List, length, get_or, take, drop, length-take-le, length-drop, set, sym, ap, ◌∙◌, ap₂, ⊎_elim, arith, pow_mono}
+use Rattle.std.proofs.Common.{◌≡◌, ◌==◌, ℕ, zero, suc, ◌+◌, ◌-◌, ◌*◌, ◌/◌, ◌%◌, ◌^◌, ◌<◌, ◌≤◌, min, List, length, get_or, take, drop, length-take-le, length-drop, set, sym, ap, ◌∙◌, ap₂, ⊎_elim, arith, pow_mono}
 use borrow.Rule.Slice.PartMut.{put_mid}
+use Rattle.std.proofs.lemmas.Nat.{shr-shr}
 use Rattle.std.proofs.lemmas.Bool.{cases_lt}
 use Rattle.coordinates.specs.SetPlaces.{NextSet}
 use Rattle.level.specs.Bytes.{sixteen, num_bytes}
@@ -9,11 +10,11 @@ use Rattle.level.specs.Laws.{Arithmetic, Laws}
 use Rattle.level.proofs.Digits.{bytes_are_coordinates}
 use Rattle.level.proofs.Elements.{plus_zeros}
 use Rattle.multilinear.specs.Lent.{lent}
-use Rattle.multilinear.specs.Sums.{at_bit}
+use Rattle.multilinear.specs.Sums.{at_bit, where_set}
 use Rattle.multilinear.proofs.Lent.{lent_read, lent_past}
 use Rattle.tensor_algebra.specs.Tensor.{nothing, exterior, add, one, scale_rows}
 use Rattle.multilinear.proofs.Places.{Written, before_part, in_part, past_part, of_part, written_read, written_more, written_all}
-use Rattle.tensor.proofs.Tensors.{add_past, scale_rows_past, exterior_past, nothing_add}
+use Rattle.tensor.proofs.Tensors.{add_past, scale_rows_past, exterior_past, nothing_add, digit_set}
 
 -- the bytes of an element hold all its coordinates
 coordinates_held : (k : ℕ) → width k ≤ 8 * num_bytes k
@@ -33,6 +34,10 @@ byte_fits (suc (suc (suc k))) j h l =
     let power : 2 ^ suc (suc (suc k)) ≡ 8 * 2 ^ k = omega arith in
     let whole : width (suc (suc (suc k))) ≡ 8 * 2 ^ k = power in
     (omega arith, omega arith)
+
+-- the digits left after one more is taken off
+pub halved : (n i rest : ℕ) → rest ≡ n / 2 ^ i → rest / 2 ≡ n / 2 ^ (i + 1)
+halved n i rest e = ap (λ m. m / 2) e ∙ shr-shr n i 1
 
 module _ {X : Type 0} {k : ℕ} (means : X → Element k) where
   -- rows added, row by row
@@ -84,6 +89,16 @@ module _ {X : Type 0} {k : ℕ} (means : X → Element k) where
       let f = picked n b xs in
       written_more means f xs zs i y h
       (made ∙ ap₂ plus (ap means read ∙ written_read means f xs zs i x h w) (sym (ap (λ c. at_bit c b) one))) w
+
+  -- at each place b is added where its digit is set
+  pub chosen_more : (n : ℕ) (b : Element k) (xs zs : List X) (i rest : ℕ) (x y : X) → i < length zs
+      → means y ≡ plus (means (get_or zs i x)) (where_set (rest % 2 == 1) b) → rest ≡ n / 2 ^ i
+      → Written means (picked n b xs) xs zs i → Written means (picked n b xs) xs (set zs i y) (i + 1)
+  unfolding picked
+  chosen_more n b xs zs i rest x y h made e w =
+      let f = picked n b xs in
+      written_more means f xs zs i y h
+      (made ∙ ap₂ plus (written_read means f xs zs i x h w) (digit_set (rest % 2) b (omega arith) ∙ ap (λ m. at_bit (m % 2) b) e)) w
 
   pub picked_all : (n : ℕ) (b : Element k) (xs zs : List X) (i u : ℕ) → u < i → Written means (picked n b xs) xs zs i
       → lent means zs u ≡ plus (lent means xs u) (at_bit (n / 2 ^ u % 2) b)

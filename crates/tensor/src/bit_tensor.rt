@@ -4,7 +4,7 @@ ghost use Rattle.multilinear.specs.Lent.{lent};
 ghost use Rattle.tensor_algebra.specs.Subsets.{basis};
 ghost use Rattle.tensor_algebra.specs.Tensor.{nothing, one, exterior, add, column, scale_rows, scale_columns, equality_factor, batch_rows};
 
-use crate::rows::add_where_set;
+use crate::rows::add_byte;
 use coordinates::per_coordinate::PerCoordinate;
 use coordinates::{basis, clear, num_bytes, width};
 use level::level::Level;
@@ -34,7 +34,7 @@ impl<'a, L: Level> BitTensor<'a, L> {
     }
 
     // Adds a ⊗ b: b to each row whose coordinate of a is set, a byte of coordinates at a time.
-    pub fn add_exterior_product(&mut self, a: L, b: L)
+    fn add_bytes<const LISTED: bool>(&mut self, a: L, b: L)
         ensures same { self.new.rows.ghost_name ≡ self.old.rows.ghost_name }
         ensures rows { lent L.means self.new.rows.now ≡ add (lent L.means self.old.rows.now) (exterior (L.means a) (L.means b)) }
     {
@@ -44,8 +44,24 @@ impl<'a, L: Level> BitTensor<'a, L> {
         // A part of the rows for each byte, since of what is written through `chunks_mut` a proof knows only the length.
         for (j, byte) in bytes[..num_bytes::<L>()].iter().enumerate() {
             let start = 8 * j;
-            add_where_set(&mut self.rows[start..start + count], *byte, b);
+            add_byte::<L, LISTED>(&mut self.rows[start..start + count], *byte, b);
         }
+    }
+
+    // Adds a ⊗ b: b to each row whose coordinate of a is set. It lists the set coordinates.
+    pub fn add_exterior_product(&mut self, a: L, b: L)
+        ensures same { self.new.rows.ghost_name ≡ self.old.rows.ghost_name }
+        ensures rows { lent L.means self.new.rows.now ≡ add (lent L.means self.old.rows.now) (exterior (L.means a) (L.means b)) }
+    {
+        self.add_bytes::<true>(a, b);
+    }
+
+    // The same by one turn for each row, for loops over many products: in those about half of the coordinates are set.
+    pub fn add_dense_product(&mut self, a: L, b: L)
+        ensures same { self.new.rows.ghost_name ≡ self.old.rows.ghost_name }
+        ensures rows { lent L.means self.new.rows.now ≡ add (lent L.means self.old.rows.now) (exterior (L.means a) (L.means b)) }
+    {
+        self.add_bytes::<false>(a, b);
     }
 
     // Becomes one ⊗ one.
@@ -84,7 +100,7 @@ impl<'a, L: Level> BitTensor<'a, L> {
         ensures rows { lent L.means self.new.rows.now ≡ add (lent L.means self.old.rows.now) (exterior (L.arithmetic.times (L.means a) (basis L.Level.log u)) (L.means row)) }
     {
         if !row.equals(L::zero()) {
-            self.add_exterior_product(a.mul(basis(u)), row);
+            self.add_dense_product(a.mul(basis(u)), row);
         }
     }
 

@@ -1,7 +1,7 @@
 use Rattle.std.proofs.Common.{◌+◌, ◌-◌, ◌*◌, ◌<◌, ◌≤◌, length, get_or, drop, refl, ap, ◌∙◌, length-drop, length-take, length-take-le, arith}
 use Rattle.std.proofs.lemmas.List.{get_or-take}
 use Rattle.tensor.proofs.Turns.{byte_fits, byte_more, bytes_all}
-use Rattle.tensor.proofs.bit_tensor.BitTensor.add_exterior_product.Goals as goal
+use Rattle.tensor.proofs.bit_tensor.BitTensor.add_bytes.Goals as goal
 
 pub loop-j-preserved : goal.loop-j-preserved
 loop-j-preserved g c =
@@ -16,10 +16,10 @@ loop-j-preserved g c =
     let room : count ≤ length (drop start rows) = omega (arith, fits.0, length-drop start rows, c.loop-j.self.sized) in
     record {
       same = c.loop-j.invariant.same;
-      added = byte_more m (m c.args.a) (m c.args.b) first.rows.now rows c.add_where_set.new.rows j start count _ first.narrow first.sized (omega (arith, first.sized, c.loop-j.self.sized))
-          refl (omega arith) (omega (arith, c.add_where_set.auto.rows, length-take-le count (drop start rows) room)) (omega (arith, below))
+      added = byte_more m (m c.args.a) (m c.args.b) first.rows.now rows c.add_byte.new.rows j start count _ first.narrow first.sized (omega (arith, first.sized, c.loop-j.self.sized))
+          refl (omega arith) (omega (arith, c.add_byte.auto.rows, length-take-le count (drop start rows) room)) (omega (arith, below))
           (get_or-take c.num_bytes.result c.to_bytes-bytes.result j 0 below ∙ ap (λ bs. get_or bs j 0) c.to_bytes-bytes.ensures) c.loop-j.invariant.added
-          c.add_where_set.ensures;
+          c.add_byte.ensures;
     }
 
 pub returns-clause-rows : goal.returns-clause-rows

@@ -2,7 +2,7 @@ use Rattle.std.proofs.Common.{◌≡◌, ◌*◌}
 use Rattle.multilinear.specs.Lent.{lent}
 use Rattle.tensor_algebra.specs.Tensor.{exterior, add}
 use Rattle.multilinear.proofs.Places.{Written}
-use Rattle.tensor.proofs.bit_tensor.BitTensor.add_exterior_product.Given as goal
+use Rattle.tensor.proofs.bit_tensor.BitTensor.add_bytes.Given as goal
 
 abbrev pub invariant-loop-j : goal.invariant-loop-j
 invariant-loop-j g l =
