@@ -6,3 +6,4 @@ pub mod Packing
 pub mod SetCoordinates
 pub mod Weights
 pub mod InitialSums
+pub mod Claimed

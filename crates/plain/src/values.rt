@@ -1,6 +1,9 @@
 ghost use Rattle.std.specs.Prelude.{◌≡◌};
 ghost use Rattle.multilinear.specs.Cells.{cell, standing};
-ghost use Rattle.ring_switch.specs.ClaimLaws.{value, value_one_row_on};
+ghost use Rattle.multilinear.specs.Equality.{equality};
+ghost use Rattle.ring_switch.specs.Opening.{named, low};
+ghost use Rattle.ring_switch.specs.Claims.{incoming, successor_claim};
+ghost use Rattle.ring_switch.specs.ClaimLaws.{opened, opened_carry, opened_last, value, value_one_row_on};
 ghost use Rattle.opening.specs.Openings.{opening_of};
 
 use crate::cells::{cell, successor_cell};
@@ -17,16 +20,19 @@ fn standing<L: Level>(bit: u8) -> L
     if bit == 0 { L::zero() } else { L::one() }
 }
 
-// The multilinear value of a table of bits at the point of an opening.
+// The multilinear value of a table of bits at the point of an opening: the incoming claim of the table's tensor.
 pub fn table_value<L: Level>(bits: &[u8], reduction: &BitRingSwitch<L>) -> L
-    ensures { L.means result ≡ value L.arithmetic (opening_of L.Level reduction.now) (cell bits.now) }
+    ensures value { L.means result ≡ value L.arithmetic (opening_of L.Level reduction.now) (cell bits.now) }
+    ensures incoming { let o = opening_of L.Level reduction.now in L.means result ≡ incoming L.arithmetic (equality L.arithmetic (low o)) (opened L.arithmetic o (cell bits.now)) }
 {
     value_at(reduction.point, |c| standing(cell(bits, c)))
 }
 
-// That of the bits one row on, under the view of the opening: without one a row is a single bit, and the bits stay as they are.
+// That of the bits one row on, under the view of the opening: the successor claim of the table's tensor, carry and last. Without a view a row
+// is a single bit, and the bits stay as they are.
 pub fn successor_value<L: Level>(bits: &[u8], reduction: &BitRingSwitch<L>) -> L
-    ensures { L.means result ≡ value_one_row_on L.arithmetic (opening_of L.Level reduction.now) (cell bits.now) }
+    ensures value { L.means result ≡ value_one_row_on L.arithmetic (opening_of L.Level reduction.now) (cell bits.now) }
+    ensures claim { let o = opening_of L.Level reduction.now in L.means result ≡ successor_claim L.arithmetic (equality L.arithmetic (low o)) (named o.view) (opened L.arithmetic o (cell bits.now)) (opened_carry L.arithmetic o (cell bits.now)) (opened_last L.arithmetic o (cell bits.now)) }
 {
     let rows = Columns::new(reduction.view.unwrap_or(0));
     value_at(
