@@ -23,7 +23,7 @@ use opening::batch::BitRingSwitchBatch;
 
 // x where the test holds, else zero.
 #[tactic(auto, unfolding(multilinear::specs::Sums::where_set))]
-fn where_set<L: Level>(test: bool, x: L) -> L
+pub fn where_set<L: Level>(test: bool, x: L) -> L
     ensures { L.means result ≡ where_set test (L.means x) }
 {
     if test { x } else { L::zero() }

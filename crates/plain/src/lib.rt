@@ -5,6 +5,6 @@
 pub mod batching;
 pub mod cells;
 pub mod points;
-mod subsets;
+pub mod subsets;
 mod sums;
 pub mod values;

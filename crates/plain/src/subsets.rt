@@ -22,7 +22,7 @@ fn at_coordinate<L: Level>(coordinates: u128, u: usize, x: L) -> L
 }
 
 // The sum of the weights of an element's set coordinates.
-pub(crate) fn subset_sum<L: Level>(weights: PerCoordinate<L>, x: L) -> L
+pub fn subset_sum<L: Level>(weights: PerCoordinate<L>, x: L) -> L
     ensures { L.means result ≡ subset_sum (lent L.means weights.entry.elements.now) (L.means x) }
 {
     let set = coordinates(x);
