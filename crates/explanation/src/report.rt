@@ -1,7 +1,7 @@
-ghost use Rattle.std.specs.Prelude.{◌≡◌, ◌≤◌, ◌++◌, map, length, IfOk, IfSome, Some, string_bytes};
+ghost use Rattle.std.specs.Prelude.{◌≡◌, ◌≤◌, ◌++◌, map, length, IfOk, Some, None, string_bytes};
 ghost use Rattle.opening.specs.Openings.{opening_of};
 ghost use Rattle.problem.specs.Task.{task_of, asked};
-ghost use Rattle.report_lines.specs.Batched.{RowsOf};
+ghost use Rattle.report_lines.specs.Batched.{RowsOf, batch_refusal};
 ghost use Rattle.report_lines.specs.Report.{variables_of, batched_text, opened_text, report_text, Reported};
 
 use crate::step_lines::{batch_lines, packed_lines};
@@ -19,8 +19,9 @@ use report_lines::values::{open, opening_lines};
 use report_lines::variables::packed_variables;
 use std::alloc::{AllocError, Global};
 
-// Adds the lines of the batching at a point with its weights, and of the closing points, until a step is refused.
-fn batched_lines<'a, L: Level>(
+// Adds the lines of a batching that fits, with the weights of its point, and of the closing points, until one is refused. It is a function of
+// its own, since a batching lends its opening and its weights for one time.
+fn weighed_lines<'a, L: Level>(
     out: &mut String,
     problem: &Problem<L>,
     reduction: BitRingSwitch<'a, L>,
@@ -29,9 +30,9 @@ fn batched_lines<'a, L: Level>(
 ) -> Result<(), Stop>
     requires opened { opening_of L.Level reduction ≡ asked (task_of L.means problem.now) }
     requires rows { RowsOf L.Level batching.now rows.now }
+    requires fits { batch_refusal L.Level.log reduction.view problem.now.challenge (length batching.now) ≡ None }
     ensures { Reported result (string_bytes out.new) (string_bytes out.old ++ batched_text L.arithmetic (task_of L.means problem.now) (Some (map L.means batching.now))) }
 {
-    reduction.check_batching(problem.challenge.is_some(), batching.len())?;
     let batch = BitRingSwitchBatch {
         reduction,
         eq_batch: PerCoordinate { elements: rows },
@@ -41,23 +42,39 @@ fn batched_lines<'a, L: Level>(
     closing_lines(out, problem.closings.as_slice(), |z| close(&batch, z))
 }
 
-// Adds the lines of a problem past its packed elements, until a step is refused, with the batching weights.
-fn opened_lines<'a, L: Level>(
+// Adds the lines of the batching at a point, and of the closing points, until a step is refused. The weights are formed only where the
+// batching fits: the point of one that is refused may have any number of coordinates.
+fn batched_lines<L: Level>(
+    heap: Global,
     out: &mut String,
-    problem: &'a Problem<L>,
+    problem: &Problem<L>,
+    reduction: BitRingSwitch<L>,
+    batching: &[L],
+) -> Result<(), Stop>
+    requires { opening_of L.Level reduction ≡ asked (task_of L.means problem.now) }
+    ensures { Reported result (string_bytes out.new) (string_bytes out.old ++ batched_text L.arithmetic (task_of L.means problem.now) (Some (map L.means batching.now))) }
+{
+    reduction.check_batching(problem.challenge.is_some(), batching.len())?;
+    let rows = batching_rows(heap, batching)?;
+    weighed_lines(out, problem, reduction, batching, rows.as_slice())
+}
+
+// Adds the lines of a problem past its packed elements, until a step is refused.
+fn opened_lines<L: Level>(
+    heap: Global,
+    out: &mut String,
+    problem: &Problem<L>,
     variables: usize,
-    rows: &'a [L],
 ) -> Result<(), Stop>
     requires narrow { L.Level.log ≤ 7 }
     requires few { variables ≤ 24 }
     requires packed { variables ≡ variables_of L.Level.log (length problem.now.bits.items) }
-    requires rows { IfSome problem.now.batching (λ b. RowsOf L.Level b.items rows.now) }
     ensures { Reported result (string_bytes out.new) (string_bytes out.old ++ opened_text L.arithmetic (task_of L.means problem.now)) }
 {
     let reduction = open(variables, problem.point.as_slice(), problem.view)?;
     opening_lines(out, &opening_values(problem.bits.as_slice(), &reduction))?;
     match &problem.batching {
-        Some(batching) => batched_lines(out, problem, reduction, batching.as_slice(), rows),
+        Some(batching) => batched_lines(heap, out, problem, reduction, batching.as_slice()),
         None => Ok(()),
     }
 }
@@ -70,9 +87,7 @@ fn problem_lines<L: Level>(heap: Global, out: &mut String, problem: &Problem<L>)
     let bits = problem.bits.as_slice();
     let variables = packed_variables::<L>(bits)?;
     packed_lines::<L>(out, bits, 1 << variables)?;
-    // The weights are formed before the point is opened, since the batching lends both for one time.
-    let rows = batching_rows(heap, problem)?;
-    opened_lines(out, problem, variables, rows.as_slice())
+    opened_lines(heap, out, problem, variables)
 }
 
 // The report of a problem: its lines, and a last one where a step is refused.

@@ -1,4 +1,4 @@
-ghost use Rattle.std.specs.Prelude.{◌≡◌, ℕ, ◌≤◌, IfOk, IfSome};
+ghost use Rattle.std.specs.Prelude.{◌≡◌, ℕ, ◌≤◌, IfOk};
 ghost use Rattle.std.specs.Option.{option_map};
 ghost use Rattle.multilinear.specs.Cells.{cell};
 ghost use Rattle.opening.specs.Openings.{opening_of};
@@ -13,7 +13,6 @@ use opening::bit_ring_switch::BitRingSwitch;
 use plain::batching::closing_value;
 use plain::points::equality_entries;
 use plain::values::{successor_value, table_value};
-use problem::problem::Problem;
 use refusals::faults::BitRingSwitchError;
 use report_lines::values::OpeningValues;
 use std::alloc::{AllocError, Global};
@@ -37,19 +36,8 @@ pub fn opening_values<L: Level>(bits: &[u8], reduction: &BitRingSwitch<L>) -> Op
     }
 }
 
-// The batching weights of a problem, the equality table of its batching point; none where it has no such point.
-pub fn batching_rows<L: Level>(heap: Global, problem: &Problem<L>) -> Result<Vec<L>, AllocError>
-    requires { L.Level.log ≤ 7 }
-    ensures { IfOk result (λ v. IfSome problem.now.batching (λ b. RowsOf L.Level b.items v.items)) }
-{
-    match &problem.batching {
-        Some(batching) => point_rows(heap, batching.as_slice()),
-        None => Ok(Vec::new(heap)),
-    }
-}
-
-// The equality table of a point over the coordinates of an element.
-fn point_rows<L: Level>(heap: Global, point: &[L]) -> Result<Vec<L>, AllocError>
+// The batching weights of a point, its equality table over the coordinates of an element.
+pub fn batching_rows<L: Level>(heap: Global, point: &[L]) -> Result<Vec<L>, AllocError>
     requires { L.Level.log ≤ 7 }
     ensures { IfOk result (λ v. RowsOf L.Level point.now v.items) }
 {

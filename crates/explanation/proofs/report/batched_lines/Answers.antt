@@ -1,19 +1,12 @@
-use Rattle.std.proofs.Common.{◌++◌, map, length, vec_items, is_some, string_bytes, Vec, sym, refl, ap, ◌∙◌, subst, rules}
+use Rattle.std.proofs.Common.{map, length, is_some, string_bytes, sym, refl, ap, ◌∙◌}
 use lib.ListN.{length-map}
-use Rattle.std.proofs.lemmas.Fn.{always_returns_same}
 use Rattle.std.proofs.lemmas.Result.{err_from_is_err_and}
-use Rattle.std.specs.declared.alloc.Global.{Global}
-use Rattle.multilinear.specs.Equality.{Point}
-use Rattle.multilinear.specs.Lent.{lent}
 use Rattle.ring_switch.specs.Opening.{kept}
 use Rattle.refusals.specs.Steps.{batching}
 use Rattle.opening.specs.Openings.{opening_of}
 use Rattle.problem.specs.Task.{task_of}
 use Rattle.problem.proofs.Optional.{some_mapped}
-use Rattle.report_lines.specs.Batched.{Batching}
-use Rattle.report_lines.specs.Closings.{Closes}
-use Rattle.report_lines.specs.Report.{Reported, closing_text}
-use Rattle.report_lines.proofs.Reporting.{batching_refused, batching_passed}
+use Rattle.report_lines.proofs.Reporting.{batching_refused}
 use Rattle.explanation.proofs.report.batched_lines.Goals as goal
 
 pub returns-in_err-check_batching : goal.returns-in_err-check_batching
@@ -22,27 +15,16 @@ returns-in_err-check_batching g c =
     let t = task_of m.means c.args.problem.now in
     let b = c.args.batching.now in
     let p = err_from_is_err_and c.from_residual.result c.from_residual.ensures.1 in
-    rw (p.1, p.2) (batching_refused m.arithmetic t _ refl (string_bytes c.args.out.now) (opening_of m c.args.reduction) c.requires.opened
+    rw (p.1, p.2) (batching_refused m.arithmetic t _ refl (string_bytes c.args.out.now) (opening_of m c.args.reduction) c.requires
     (map m.means b) (length b) (sym (length-map b m.means)) _ (some_mapped m.means c.args.problem.now.challenge) _
     (c.in_err-check_batching.ensures ∙ ap (λ s. batching m.log (is_some (kept m.log c.args.reduction.view)) s (length b)) c.is_some.ensures))
 
-pub returns : goal.returns
-returns g c =
+pub weighed_lines-requires : goal.weighed_lines-requires
+weighed_lines-requires g c =
     let m = g.L.Level in
-    let problem = c.args.problem.now in
-    let t = task_of m.means problem in
     let b = c.args.batching.now in
-    let bits = c.as_slice.result.now in
-    let o = opening_of m c.args.reduction in
-    let points : Vec g.row.L.Denot Global → Point m.log = λ v. map m.means (vec_items v) in
-    let s : Batching m.log = record { opening = o; rows = lent m.means c.args.rows.now; challenge = t.challenge } in
-    let w = string_bytes c.batch_lines.new.out in
-    subst (Reported c.closing_lines.result (string_bytes c.closing_lines.new.out))
-    (ap (λ l. w ++ closing_text m.arithmetic s (map points l)) c.as_slice-2.ensures.value
-    ∙ batching_passed m.arithmetic t bits c.as_slice.ensures.value (string_bytes c.args.out.now) o c.requires.opened
-    (map m.means b) (length b) (sym (length-map b m.means)) _ (some_mapped m.means problem.challenge) w (lent m.means c.args.rows.now)
-    c.requires.rows.entries
-    (c.in_ok-check_batching.ensures ∙ ap (λ s. batching m.log (is_some (kept m.log c.args.reduction.view)) s (length b)) c.is_some.ensures) c.in_ok-batch_lines.ensures)
-    (c.closing_lines.ensures s (always_returns_same _ _ _ (λ a r f called.
-    let closes : Closes m.means m.arithmetic s a.0.now r = search (rules, called.met) in
-    (closes, search (rules, called.met)))))
+    record {
+      opened = c.requires;
+      rows = rw c.as_slice.ensures.value c.in_ok-rows.ensures;
+      fits = sym (c.in_ok-check_batching.ensures ∙ ap (λ s. batching m.log (is_some (kept m.log c.args.reduction.view)) s (length b)) c.is_some.ensures);
+    }

@@ -34,7 +34,6 @@ opened_lines-requires g c =
     record {
       narrow = p.narrow;
       few = few _ _ _ p small;
-      rows = rw c.as_slice.ensures.value c.in_ok-rows.ensures;
       packed = variables_are _ _ _ p small ∙ ap (λ (l : List ℕ). variables_of g.L.Level.log (length l)) bits;
     }
 
