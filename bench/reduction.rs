@@ -15,10 +15,7 @@ trait Rattle: Level {
     fn tensor(values: &[Self], equality: &FactoredEquality<Self>, rows: &mut [Self], scratch: &mut [Self]);
     fn carry(values: &[Self], equality: &FactoredEquality<Self>, kept: usize, shifted: &mut [Self], rows: &mut [Self], scratch: &mut [Self]);
     fn last(values: &[Self], equality: &FactoredEquality<Self>, kept: usize, rows: &mut [Self]);
-    fn weights(
-        table: &mut [Self], equality: &FactoredEquality<Self>, point: &[Self], eq_batch: &[Self], stepping: Option<(usize, Self)>,
-        scratch: &mut [Self],
-    );
+    fn weights(table: &mut [Self], equality: &FactoredEquality<Self>, eq_batch: &[Self], stepping: Option<(usize, Self)>, scratch: &mut [Self]);
 }
 
 #[link(name = "bench_reduction", kind = "static")]
@@ -43,12 +40,11 @@ macro_rules! rattle {
             );
             fn $weights(
                 table: *mut $level, n: usize, outer: *const $level, o: usize, inner: *const $level, i: usize,
-                point: *const $level, p: usize, batch: *const $level, d: usize, scratch: *mut $level, s: usize,
+                batch: *const $level, d: usize, scratch: *mut $level, s: usize,
             );
             fn $challenged(
                 table: *mut $level, n: usize, outer: *const $level, o: usize, inner: *const $level, i: usize,
-                point: *const $level, p: usize, batch: *const $level, d: usize, kept: usize, challenge: *const $level,
-                scratch: *mut $level, s: usize,
+                batch: *const $level, d: usize, kept: usize, challenge: *const $level, scratch: *mut $level, s: usize,
             );
         }
 
@@ -95,8 +91,7 @@ macro_rules! rattle {
             }
 
             fn weights(
-                table: &mut [Self], equality: &FactoredEquality<Self>, point: &[Self], eq_batch: &[Self], stepping: Option<(usize, Self)>,
-                scratch: &mut [Self],
+                table: &mut [Self], equality: &FactoredEquality<Self>, eq_batch: &[Self], stepping: Option<(usize, Self)>, scratch: &mut [Self],
             ) {
                 let (outer, inner) = (equality.outer, equality.inner);
                 let (n, s) = (table.len(), scratch.len());
@@ -104,13 +99,13 @@ macro_rules! rattle {
                     None => unsafe {
                         $weights(
                             table.as_mut_ptr(), n, outer.as_ptr(), outer.len(), inner.as_ptr(), inner.len(),
-                            point.as_ptr(), point.len(), eq_batch.as_ptr(), eq_batch.len(), scratch.as_mut_ptr(), s,
+                            eq_batch.as_ptr(), eq_batch.len(), scratch.as_mut_ptr(), s,
                         )
                     },
                     Some((kept, challenge)) => unsafe {
                         $challenged(
                             table.as_mut_ptr(), n, outer.as_ptr(), outer.len(), inner.as_ptr(), inner.len(),
-                            point.as_ptr(), point.len(), eq_batch.as_ptr(), eq_batch.len(), kept, &challenge, scratch.as_mut_ptr(), s,
+                            eq_batch.as_ptr(), eq_batch.len(), kept, &challenge, scratch.as_mut_ptr(), s,
                         )
                     },
                 }
@@ -188,19 +183,12 @@ impl<L: Level> Memory<L> {
     }
 }
 
-// The input: a table of bits, the point, the batching table and the challenge.
+// The input: a table of bits, the point's coordinates past the packing, the batching table and the challenge.
 struct Input<L> {
     bits: Vec<u8>,
     point: Vec<L>,
     eq_batch: Vec<L>,
     challenge: L,
-}
-
-impl<L: Level> Input<L> {
-    // The coordinates that the packing keeps, which lead the point.
-    fn high(&self) -> &[L] {
-        &self.point[..self.point.len() - L::LOG]
-    }
 }
 
 #[derive(Clone, Copy)]
@@ -218,7 +206,7 @@ fn rattle<L: Rattle>(input: &Input<L>, memory: &mut Memory<L>, operation: Operat
     if let Operation::Packing | Operation::PackingCollected = operation {
         return L::pack(&input.bits, elements);
     }
-    L::factor(outer, inner, input.high());
+    L::factor(outer, inner, &input.point);
     let equality = FactoredEquality { outer, inner };
     match operation {
         Operation::Packing | Operation::PackingCollected => {}
@@ -229,10 +217,7 @@ fn rattle<L: Rattle>(input: &Input<L>, memory: &mut Memory<L>, operation: Operat
                 L::last(elements, &equality, kept, last);
             }
         }
-        Operation::Weights(view) => {
-            let stepping = view.map(|kept| (kept, input.challenge));
-            L::weights(table, &equality, &input.point, &input.eq_batch, stepping, tables);
-        }
+        Operation::Weights(view) => L::weights(table, &equality, &input.eq_batch, view.map(|kept| (kept, input.challenge)), tables),
     }
 }
 
@@ -247,7 +232,7 @@ fn rust<L: Level>(input: &Input<L>, memory: &mut Memory<L>, operation: Operation
         }
         Operation::Tensors(_) | Operation::Weights(_) => {}
     }
-    algorithms::factor(outer, inner, input.high());
+    algorithms::factor(outer, inner, &input.point);
     let equality = FactoredEquality { outer, inner };
     match operation {
         Operation::Packing | Operation::PackingCollected => {}
@@ -295,7 +280,7 @@ fn measure<L: Rattle>(name: &str, log_cells: usize, worst: &mut f64) {
     let mut draw = Draw(0x9f4c_2e81_77d3_605b);
     let input = Input::<L> {
         bits: draw.bytes(L::BYTES << high),
-        point: draw.elements(log_cells),
+        point: draw.elements(high),
         eq_batch: draw.elements(L::WIDTH),
         challenge: draw.elements(1)[0],
     };

@@ -12,9 +12,8 @@ use coordinates::per_coordinate::PerCoordinate;
 use equality::factored::FactoredEquality;
 use folding::slot_table::SlotTable;
 use level::level::Level;
-use opening::batch::BitRingSwitchBatch;
-use opening::bit_ring_switch::BitRingSwitch;
-use weights::weights::weights_over;
+use weights::combined::combine_weights;
+use weights::settled::settled_weights;
 
 // Packed elements beside the table that two factors hold, an entry for each element.
 fn slot_table<'a, L: Level>(values: &'a [L], outer: &'a [L], inner: &'a [L]) -> SlotTable<'a, L>
@@ -90,66 +89,51 @@ pub(crate) fn last<'a, L: Level>(
     slot_table(values, outer, inner).last(Columns::new(kept), rows);
 }
 
-// The weights of the table that two factors hold, without a challenge, under an opening at a point without a view.
-#[tactic(auto, using(crate::proofs::Sent::none_kept))]
+// The weights of the table that two factors hold, without a challenge.
+#[tactic(auto, using(weights::proofs::Weighing::weighed_plain))]
 pub(crate) fn weights<'a, L: Level>(
     table: &mut [L],
     outer: &'a [L],
     inner: &'a [L],
-    point: &'a [L],
-    eq_batch: &'a [L],
+    eq_batch: &[L],
     scratch: &mut [L],
 )
     requires narrow { L.Level.log ≤ 7 }
     requires block { PowerOfTwo (length inner.now) }
     requires table { length table.old ≡ length outer.now * length inner.now }
-    requires point { (L.Level.log ≤ length point.now) × (length point.now < 64) }
     requires batching { length eq_batch.now ≡ width L.Level.log }
     requires scratch { length scratch.old ≡ 512 * num_bytes L.Level.log }
     ensures weights { (i : ℕ) → i < length table.old → lent L.means table.new i ≡ weight_over L.Level outer.now inner.now eq_batch.now 0 none i }
     ensures scratch { lent L.means scratch.new ≡ nothing }
 {
-    let Ok(reduction) = BitRingSwitch::new(point) else {
-        return;
-    };
-    let batch = BitRingSwitchBatch {
-        reduction,
-        eq_batch: PerCoordinate { elements: eq_batch },
-        alpha: None,
-    };
-    weights_over(table, &FactoredEquality::new(outer, inner), &batch, scratch);
+    let equality = FactoredEquality::new(outer, inner);
+    let eq_batch = PerCoordinate { elements: eq_batch };
+    settled_weights(table, &equality, eq_batch, scratch);
 }
 
-// The weights under a challenge and an opening at a point whose view has 2^kept packed elements to a row.
+// The weights of that table under a challenge, over columns of 2^kept entries.
+#[tactic(auto, using(weights::proofs::Weighing::weighed_stepped))]
 pub(crate) fn challenged_weights<'a, L: Level>(
     table: &mut [L],
     outer: &'a [L],
     inner: &'a [L],
-    point: &'a [L],
-    eq_batch: &'a [L],
+    eq_batch: &[L],
     kept: usize,
     challenge: L,
     scratch: &mut [L],
 )
     requires narrow { L.Level.log ≤ 7 }
+    requires short { kept < 64 }
     requires block { PowerOfTwo (length inner.now) }
     requires table { length table.old ≡ length outer.now * length inner.now }
     requires columns { length table.old % 2 ^ kept ≡ 0 }
-    requires sent { 0 < kept }
-    requires point { (kept + L.Level.log ≤ length point.now) × (length point.now < 64) }
     requires batching { length eq_batch.now ≡ width L.Level.log }
     requires scratch { length scratch.old ≡ 512 * num_bytes L.Level.log }
     ensures weights { (i : ℕ) → i < length table.old → lent L.means table.new i ≡ weight_over L.Level outer.now inner.now eq_batch.now kept (some (L.means challenge)) i }
     ensures scratch { lent L.means scratch.new ≡ nothing }
 {
-    let rows = kept + BitRingSwitch::<L>::absorbed();
-    let Ok(reduction) = BitRingSwitch::with_successor(point, rows) else {
-        return;
-    };
-    let batch = BitRingSwitchBatch {
-        reduction,
-        eq_batch: PerCoordinate { elements: eq_batch },
-        alpha: Some(challenge),
-    };
-    weights_over(table, &FactoredEquality::new(outer, inner), &batch, scratch);
+    let equality = FactoredEquality::new(outer, inner);
+    let eq_batch = PerCoordinate { elements: eq_batch };
+    settled_weights(table, &equality, eq_batch, scratch);
+    combine_weights(table, Columns::new(kept), challenge);
 }

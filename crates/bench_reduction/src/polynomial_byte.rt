@@ -1,5 +1,5 @@
 // The operations at the polynomial byte.
-ghost use Rattle.std.specs.Prelude.{◌≡◌, ℕ, ◌+◌, ◌-◌, ◌*◌, ◌/◌, ◌%◌, ◌^◌, ◌<◌, ◌≤◌, map, length, Some as some, None as none};
+ghost use Rattle.std.specs.Prelude.{◌≡◌, ℕ, ◌-◌, ◌*◌, ◌/◌, ◌%◌, ◌^◌, ◌<◌, ◌≤◌, map, length, Some as some, None as none};
 ghost use Rattle.multilinear.specs.Equality.{inner_count};
 ghost use Rattle.multilinear.specs.Lent.{lent};
 ghost use Rattle.tensor_algebra.specs.Tensor.{nothing};
@@ -101,19 +101,17 @@ pub extern "C" fn weights_polynomial_byte<'a>(
     table: &mut [PolynomialByte],
     outer: &'a [PolynomialByte],
     inner: &'a [PolynomialByte],
-    point: &'a [PolynomialByte],
-    eq_batch: &'a [PolynomialByte],
+    eq_batch: &[PolynomialByte],
     scratch: &mut [PolynomialByte],
 )
     requires block { PowerOfTwo (length inner.now) }
     requires table { length table.old ≡ length outer.now * length inner.now }
-    requires point { (3 ≤ length point.now) × (length point.now < 64) }
     requires batching { length eq_batch.now ≡ 8 }
     requires scratch { length scratch.old ≡ 512 }
     ensures weights { (i : ℕ) → i < length table.old → lent of.means table.new i ≡ weight_over of outer.now inner.now eq_batch.now 0 none i }
     ensures scratch { lent of.means scratch.new ≡ nothing }
 {
-    operations::weights(table, outer, inner, point, eq_batch, scratch);
+    operations::weights(table, outer, inner, eq_batch, scratch);
 }
 
 #[unsafe(no_mangle)]
@@ -121,23 +119,19 @@ pub extern "C" fn challenged_weights_polynomial_byte<'a>(
     table: &mut [PolynomialByte],
     outer: &'a [PolynomialByte],
     inner: &'a [PolynomialByte],
-    point: &'a [PolynomialByte],
-    eq_batch: &'a [PolynomialByte],
+    eq_batch: &[PolynomialByte],
     kept: usize,
     challenge: &PolynomialByte,
     scratch: &mut [PolynomialByte],
 )
-    requires sent { 0 < kept }
+    requires short { kept < 64 }
     requires block { PowerOfTwo (length inner.now) }
     requires table { length table.old ≡ length outer.now * length inner.now }
     requires columns { length table.old % 2 ^ kept ≡ 0 }
-    requires point { (kept + 3 ≤ length point.now) × (length point.now < 64) }
     requires batching { length eq_batch.now ≡ 8 }
     requires scratch { length scratch.old ≡ 512 }
     ensures weights { (i : ℕ) → i < length table.old → lent of.means table.new i ≡ weight_over of outer.now inner.now eq_batch.now kept (some (of.means challenge.now)) i }
     ensures scratch { lent of.means scratch.new ≡ nothing }
 {
-    operations::challenged_weights(
-        table, outer, inner, point, eq_batch, kept, *challenge, scratch,
-    );
+    operations::challenged_weights(table, outer, inner, eq_batch, kept, *challenge, scratch);
 }
