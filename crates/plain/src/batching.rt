@@ -1,17 +1,16 @@
 // What a batching comes to, weight by weight.
 ghost use Rattle.std.specs.Prelude.{◌≡◌, ◌+◌, ◌*◌, ◌^◌, ◌<◌, ◌≤◌, not, map, length};
-ghost use Rattle.std.specs.Option.{option_map};
 ghost use Rattle.level.specs.Element.{plus, width};
 ghost use Rattle.multilinear.specs.Sums.{where_set};
 ghost use Rattle.multilinear.specs.Equality.{multilinear};
 ghost use Rattle.multilinear.specs.Cells.{cell};
 ghost use Rattle.multilinear.specs.Columns.{starts, ends};
-ghost use Rattle.ring_switch.specs.Opening.{kept_rows, rest};
+ghost use Rattle.ring_switch.specs.Opening.{rest};
 ghost use Rattle.ring_switch.specs.Slots.{slot_table};
-ghost use Rattle.ring_switch.specs.Batching.{settled, closing_value};
+ghost use Rattle.ring_switch.specs.Batching.{settled};
 ghost use Rattle.opening.specs.Openings.{opening_of};
 ghost use Rattle.opening.specs.Batches.{rows_of, weights_of};
-ghost use Rattle.plain.specs.Batches.{weighted_sum, initial_of, carried_weight};
+ghost use Rattle.plain.specs.Batches.{weighted_sum, initial_of, carried_weight, closing_of};
 
 use crate::cells::packed_element;
 use crate::points::equality_entry;
@@ -79,7 +78,7 @@ pub fn slot_sum<L: Level>(batch: &BitRingSwitchBatch<L>, bits: &[u8]) -> L
 pub fn closing_value<L: Level>(batch: &BitRingSwitchBatch<L>, z: &[L]) -> L
     requires { length z.now < 64 }
     ensures value { L.means result ≡ multilinear L.arithmetic (weights_of L.Level batch.now) (map L.means z.now) }
-    ensures closing { let o = opening_of L.Level batch.now.reduction in length z.now ≡ length (rest L.arithmetic o) → L.means result ≡ closing_value L.arithmetic (rows_of L.Level batch.now) (rest L.arithmetic o) (kept_rows o) (option_map L.means batch.now.alpha) (map L.means z.now) }
+    ensures closing { length z.now ≡ length (rest L.arithmetic (opening_of L.Level batch.now.reduction)) → L.means result ≡ closing_of L.Level batch.now (map L.means z.now) }
 {
     value_at(z, |i| weight(batch, i))
 }
