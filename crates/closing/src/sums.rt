@@ -10,7 +10,7 @@ use opening::batch::BitRingSwitchBatch;
 use tensor::successor_tensors::SuccessorTensors;
 
 // The successor share of either end: α·rows(carry) + α²·rows(last), zero where none are given.
-pub(crate) fn successor_rows<L: Level>(
+pub fn successor_rows<L: Level>(
     eq_batch: PerCoordinate<L>,
     alpha: L,
     successor: Option<SuccessorTensors<L>>,

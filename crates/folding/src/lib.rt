@@ -8,6 +8,6 @@
 pub mod block;
 pub mod carry;
 pub mod last;
-mod shifting;
+pub mod shifting;
 pub mod slot_table;
 pub mod tensor_fold;

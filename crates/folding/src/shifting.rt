@@ -19,7 +19,7 @@ fn entry_before<L: Level>(inner: &[L], columns: Columns, j: usize) -> L
 
 // Writes the inner factors one place on, which are the left factors of the carry: entry j is zero where j starts a column, else inner
 // entry j - 1.
-pub(crate) fn shift<L: Level>(inner: &[L], columns: Columns, out: &mut [L])
+pub fn shift<L: Level>(inner: &[L], columns: Columns, out: &mut [L])
     requires { length out.old ≡ length inner.now }
     ensures { (j : ℕ) → j < length inner.now → lent L.means out.new j ≡ shifted columns.row_variables (lent L.means inner.now) j }
 {
